@@ -101,3 +101,10 @@ held-fine n a ls xs x e h =
   where
     at : (k : ℕ) → k < length ls → getD xs k no-line ≡ getD ls k no-line
     at k j = sym (getD-take (length ls) xs k no-line j) ∙ ap (λ (ys : List Line). getD ys k no-line) h
+
+-- an aim, and a list that fails
+pub fails-after-aim : (o : Option Aim) (t : Option Decline) (a : Aim) (d : Decline) → Some a ≡ o → Err d ≡ pass t →
+    _≡_ {A = Result Aim Decline} (Err d) (elim o [ Some aim ↦ unless t aim | None ↦ Err AimNumber ])
+fails-after-aim (Some b) (Some x) a d e f = cc
+fails-after-aim (Some b) None a d e f = absurd (let z : _≡_ {A = ℕ} 0 1 = cc in omega arith)
+fails-after-aim None t a d e f = absurd (let z : _≡_ {A = ℕ} 0 1 = cc in omega arith)

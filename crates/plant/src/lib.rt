@@ -19,6 +19,7 @@ pub use list::MAX_JUNCTIONS;
 pub use list::MAX_LIMIT;
 pub use list::MAX_LINES;
 pub use list::test_limits;
+pub use list::test_list;
 pub use list::test_plant;
 pub use list::test_trial;
 pub use sums::Marks;

@@ -2,7 +2,7 @@
 ghost use lib.ListN.{length};
 ghost use mathlib.Core.Bool.{Bool};
 ghost use mathlib.Core.Path.{_≡_};
-ghost use Rattle.plant.specs.Tests.{bad-direction, bad-ends, bad-limits, test-limits, test-line, test-lines, test-trial, tested, pass};
+ghost use Rattle.plant.specs.Tests.{bad-direction, bad-ends, bad-limits, test-limits, test-line, test-lines, test-list, test-trial, tested, pass};
 ghost use Rattle.std.specs.declared.option.Option.the-variants.{None};
 use super::aim::Aim;
 use super::decline::Decline;
@@ -71,20 +71,27 @@ fn test_lines(n: u8, lines: &[Line]) -> Result<(), Decline>
     Ok(())
 }
 
-/// The aim that the number stands for, or the first test that fails: aim, junctions, lines, then line by line.
-pub fn test_plant(n: u8, lines: &[Line], aim: u8) -> Result<Aim, Decline>
-    ensures { λ r. ⌜ r ≡ tested n (now (lines .entry)) aim ⌝ }
+/// The tests of a list without an aim: junctions, lines, then line by line.
+pub fn test_list(n: u8, lines: &[Line]) -> Result<(), Decline>
+    ensures { λ r. ⌜ r ≡ pass (test-list n (now (lines .entry)) None) ⌝ }
 {
-    let Some(aim) = Aim::from_number(aim) else {
-        return Err(Decline::AimNumber);
-    };
     if n < 2 || n > MAX_JUNCTIONS {
         return Err(Decline::JunctionCount);
     }
     if lines.len() > MAX_LINES {
         return Err(Decline::LineCount);
     }
-    test_lines(n, lines)?;
+    test_lines(n, lines)
+}
+
+/// The aim that the number stands for, or the first test that fails: the aim's, then the list's.
+pub fn test_plant(n: u8, lines: &[Line], aim: u8) -> Result<Aim, Decline>
+    ensures { λ r. ⌜ r ≡ tested n (now (lines .entry)) aim ⌝ }
+{
+    let Some(aim) = Aim::from_number(aim) else {
+        return Err(Decline::AimNumber);
+    };
+    test_list(n, lines)?;
     Ok(aim)
 }
 

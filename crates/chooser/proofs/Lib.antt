@@ -1,0 +1,4 @@
+pub mod Flags
+pub mod Listed
+pub mod Rings
+pub mod Closed

@@ -1,0 +1,10 @@
+use mathlib.Core.Path.{refl, sym}
+use Rattle.chooser.proofs.Flags.{ones-unset, unset}
+use Rattle.chooser.proofs.Listed.{listed-none}
+use Rattle.chooser.proofs.highest.HighestLabel.new.Needs as need
+
+pub ghost-result : need.ghost-result
+ghost-result c = ((refl, refl, refl), (sym (ones-unset 252), (listed-none 252, tt)))
+
+pub returns : need.returns
+returns c = record { empty = unset 252; none = refl }

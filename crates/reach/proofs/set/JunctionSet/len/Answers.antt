@@ -1,0 +1,20 @@
+use borrow.Author.Needs.{needs}
+use lib.ListN.{getD}
+use native.Mathlib.Omega.{arith}
+use Prim.Native.Nat.{_<_}
+use Rattle.std.proofs.shelf.Bits.{ones-le}
+use Rattle.reach.proofs.set.JunctionSet.len.Needs as need
+
+pub add-size : need.add-size
+add-size c =
+    let b = getD (c .args .self .now .bytes) (c .loop-byte .byte-index) 0 in
+    let h : b < 256 = search needs in
+    let o = ones-le 8 b h in
+    omega (arith, o, c .loop-byte .inv)
+
+pub loop-byte-again : need.loop-byte-again
+loop-byte-again c =
+    let b = getD (c .args .self .now .bytes) (c .loop-byte .byte-index) 0 in
+    let h : b < 256 = search needs in
+    let o = ones-le 8 b h in
+    omega (arith, o, c .loop-byte .inv)

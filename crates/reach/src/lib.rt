@@ -1,0 +1,15 @@
+//! Which junctions a graph reaches, and sets of junctions.
+mod adjacency;
+mod dry;
+mod graph;
+mod walk;
+mod set;
+
+pub use adjacency::Adjacency;
+pub use adjacency::AdjacencyGraph;
+pub use dry::dry_junctions;
+pub use graph::Graph;
+pub use graph::Reversed;
+pub use graph::ReversedGraph;
+pub use walk::search;
+pub use set::JunctionSet;
