@@ -4,7 +4,7 @@ use mathlib.Core.Bool.{Bool, true, false, cond}
 use mathlib.Core.List.{List, [], _∷_}
 use native.Mathlib.Omega.{arith}
 use Prim.Native.Nat.{ℕ, zero, suc, _+_, _<_, _≤_}
-use lib.ListN.{getD, length, take}
+use lib.ListN.{getD, length, length-take, take}
 use lib.Dec.{eqb, ltb, leb}
 use mathlib.Core.Bool.{_||_}
 use borrow.Author.Tests.{ltb-false, leb-false, eqb-false}
@@ -108,3 +108,16 @@ pub fails-after-aim : (o : Option Aim) (t : Option Decline) (a : Aim) (d : Decli
 fails-after-aim (Some b) (Some x) a d e f = cc
 fails-after-aim (Some b) None a d e f = absurd (let z : _≡_ {A = ℕ} 0 1 = cc in omega arith)
 fails-after-aim None t a d e f = absurd (let z : _≡_ {A = ℕ} 0 1 = cc in omega arith)
+
+-- the front of a block of fine lines
+pub record Front (n : ℕ) (ys : List Line) : Type 0 where
+  pub few : length ys ≤ 1000
+  pub fine : (k : ℕ) → k < length ys → Fine n (getD ys k no-line)
+
+pub front-fine : (n count : ℕ) (xs ys : List Line) → ys ≡ take count xs → count ≤ 1000 → ((k : ℕ) → k < count → Fine n (getD xs k no-line)) → Front n ys
+front-fine n count xs ys e few fine = subst (λ (zs : List Line). Front n zs) (sym e) (record { few = omega (arith, short); fine = at })
+  where
+    short : length (take count xs) ≤ count
+    short = omega (arith, length-take count xs)
+    at : (k : ℕ) → k < length (take count xs) → Fine n (getD (take count xs) k no-line)
+    at k j = subst (λ (l : Line). Fine n l) (sym (getD-take count xs k no-line (omega (arith, short)))) (fine k (omega (arith, short)))

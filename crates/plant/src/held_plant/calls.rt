@@ -1,10 +1,11 @@
 //! How a plant is held, and what is read off it.
-ghost use lib.ListN.{length, take};
-ghost use Prim.Native.Nat.{_≤_};
+ghost use lib.ListN.{getD, length, take};
+ghost use Prim.Native.Nat.{ℕ, _<_, _≤_};
+ghost use Rattle.plant.specs.Fine.{Fine};
 ghost use mathlib.Core.List.{[]};
 ghost use mathlib.Core.Path.{_≡_};
 ghost use Rattle.plant.specs.Held.{plant-of};
-ghost use Rattle.plant.specs.Plants.{Plant};
+ghost use Rattle.plant.specs.Plants.{Plant, no-line};
 ghost use Rattle.plant.specs.Tests.{tested};
 ghost use Rattle.std.specs.Results.{Cases};
 ghost use Rattle.std.specs.declared.result.Result.the-variants.{Err, Ok};
@@ -53,7 +54,8 @@ impl HeldPlant {
 
     /// The number of junctions.
     pub fn junctions(&self) -> u8
-        ensures { λ r. ⌜ r ≡ plant-of (now (self .entry)) .junctions ⌝ }
+        ensures value { λ r. ⌜ r ≡ plant-of (now (self .entry)) .junctions ⌝ }
+        ensures sized { λ r. ⌜ (2 ≤ r) × (r ≤ 250) ⌝ }
     {
         self.n
     }
@@ -65,9 +67,11 @@ impl HeldPlant {
         self.aim
     }
 
-    /// The lines.
+    /// The lines, each of which passed the tests.
     pub fn lines(&self) -> &[Line]
-        ensures { λ r. ⌜ now r ≡ plant-of (now (self .entry)) .lines ⌝ }
+        ensures value { λ r. ⌜ now r ≡ plant-of (now (self .entry)) .lines ⌝ }
+        ensures few { λ r. ⌜ length (now r) ≤ 1000 ⌝ }
+        ensures fine { λ r. ⌜ ((k : ℕ) → k < length (now r) → Fine (plant-of (now (self .entry)) .junctions) (getD (now r) k no-line)) ⌝ }
     {
         &self.lines[0..self.count]
     }
