@@ -25,6 +25,7 @@ pub use list::test_trial;
 pub use sums::Marks;
 pub use sums::bound;
 pub use sums::crosses;
+pub use sums::shortfall;
 pub use sums::sum_of_highs;
 pub use sums::surplus_at;
 pub use sums::total_of;

@@ -75,6 +75,15 @@ pub fn bound(aim: Aim, lines: &[Line], set: &Marks) -> i64
     sum
 }
 
+/// The shortfall of a set: by how much the lows that lead in exceed the highs that lead out.
+pub fn shortfall(lines: &[Line], set: &Marks) -> u64
+    requires { ⌜ length (now lines) ≤ 1000 ⌝ }
+    ensures { λ r. ⌜ r ≡ shortfall-over (now (lines .entry)) (marked (now (set .entry))) ⌝ }
+{
+    let bound = bound(Aim::Greatest, lines, set);
+    if bound < 0 { bound.unsigned_abs() } else { 0 }
+}
+
 // What the line adds to the surplus of a junction.
 fn surplus_share(line: &Line, v: u8) -> i64
     ensures value { λ r. ⌜ r ≡ at-junction v (now (line .entry)) ⌝ }
@@ -117,7 +126,7 @@ fn total_share(held: &HeldLine) -> i64
 
 /// The total of the flow: what leaves the header less what enters it.
 pub fn total_of(lines: &[HeldLine]) -> i64
-    requires { ⌜ length (now lines) ≤ 1000 ⌝ }
+    requires { ⌜ length (now lines) ≤ 65536 ⌝ }
     ensures { λ r. ⌜ r ≡ list-total (lines-of (arcs (now (lines .entry)))) (flows-of (arcs (now (lines .entry)))) ⌝ }
 {
     let mut sum: i64 = 0;
