@@ -7,14 +7,13 @@ mod line;
 mod list;
 mod sums;
 
-pub use aim::Aim;
-pub use decline::Decline;
-pub use decline::DeclineDisplay;
-pub use held::HeldLine;
+pub use aim::{Aim, AimDebug, AimEq, AimPartialEq};
+pub use decline::{Decline, DeclineDebug, DeclineDisplay, DeclineEq, DeclinePartialEq};
+pub use held::{HeldLine, HeldLineDebug};
 pub use held::calls::BLANK_HELD;
 pub use held_plant::HeldPlant;
 pub use line::BLANK_LINE;
-pub use line::Line;
+pub use line::{Line, LineDebug, LineEq, LinePartialEq};
 pub use list::MAX_JUNCTIONS;
 pub use list::MAX_LIMIT;
 pub use list::MAX_LINES;

@@ -1,0 +1,11 @@
+pub mod Sums
+pub mod Duality
+pub mod Paths
+pub mod Search
+pub mod Reach
+pub mod Augment
+pub mod Bests
+pub mod Widenings
+pub mod Circulations
+pub mod Hurdles
+pub mod Examples

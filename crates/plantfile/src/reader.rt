@@ -1,0 +1,127 @@
+//! Reads a plant file: N with the number of junctions, lines and trials in any order, the aim, nothing more.
+ghost use mathlib.Core.Path.{_≡_};
+ghost use Rattle.plantfile.specs.Format.{first, lineOf, trialOf};
+use plant::Aim;
+use plant::Decline;
+use plant::Line;
+use ring::Queue;
+use plant::AimDebug;
+use plant::AimPartialEq;
+use plant::LineDebug;
+use plant::LinePartialEq;
+
+/// The most trials of a file.
+pub const MAX_TRIALS: usize = 64;
+
+// A command L or T with its operands.
+const COMMAND_LEN: usize = 11;
+
+/// Other limits for one line.
+#[derive(Clone, Copy, PartialEq, Eq, Debug)]
+pub struct Trial {
+    pub line: u16,
+    pub low: u32,
+    pub high: u32,
+}
+
+/// Fills a place that holds no trial yet.
+pub const BLANK_TRIAL: Trial = Trial { line: 0, low: 0, high: 0 };
+
+/// What a file says beside its lines and trials, and how many lines it has.
+#[derive(Clone, Copy, PartialEq, Eq, Debug)]
+pub struct Heading {
+    pub n: u8,
+    pub lines: usize,
+    pub aim: Aim,
+}
+
+// What one command says.
+#[derive(Clone, Copy, PartialEq, Eq, Debug)]
+enum Command {
+    Draw(Line),
+    Try(Trial),
+    End(Aim),
+}
+
+// The operands of L.
+fn read_line(operands: &[u8]) -> Result<Command, Decline>
+    ensures { λ r. ⌜ r ≡ lineOf (now (operands .entry)) ⌝ }
+{
+    match operands {
+        [from, to, l3, l2, l1, l0, h3, h2, h1, h0, ..] => {
+            let low = u32::from_be_bytes([*l3, *l2, *l1, *l0]);
+            let high = u32::from_be_bytes([*h3, *h2, *h1, *h0]);
+            Ok(Command::Draw(Line { from: *from, to: *to, low, high }))
+        }
+        _ => Err(Decline::FileEnds),
+    }
+}
+
+// The operands of T.
+fn read_trial(operands: &[u8]) -> Result<Command, Decline>
+    ensures { λ r. ⌜ r ≡ trialOf (now (operands .entry)) ⌝ }
+{
+    match operands {
+        [n1, n0, l3, l2, l1, l0, h3, h2, h1, h0, ..] => {
+            let line = u16::from_be_bytes([*n1, *n0]);
+            let low = u32::from_be_bytes([*l3, *l2, *l1, *l0]);
+            let high = u32::from_be_bytes([*h3, *h2, *h1, *h0]);
+            Ok(Command::Try(Trial { line, low, high }))
+        }
+        _ => Err(Decline::FileEnds),
+    }
+}
+
+// The first command of what follows N and its operand, where so many trials came before.
+fn first_command(rest: &[u8], trials: usize) -> Result<Command, Decline>
+    ensures { λ r. ⌜ r ≡ first (now (rest .entry)) trials ⌝ }
+{
+    let [letter, operands @ ..] = rest else {
+        return Err(Decline::FileEnds);
+    };
+    match *letter {
+        b'L' => read_line(operands),
+        b'T' if trials >= MAX_TRIALS => Err(Decline::TrialCount),
+        b'T' => read_trial(operands),
+        b'G' | b'M' if !operands.is_empty() => Err(Decline::FileGoesOn),
+        b'G' => Ok(Command::End(Aim::Greatest)),
+        b'M' => Ok(Command::End(Aim::Least)),
+        _ => Err(Decline::NoCommand),
+    }
+}
+
+// Keeps a line where there is a place for it.
+fn keep_line(lines: &mut [Line], at: usize, line: Line) {
+    if at < lines.len() {
+        lines[at] = line;
+    }
+}
+
+// What follows N and its operand.
+fn read_body(n: u8, body: &[u8], lines: &mut [Line], waiting: &mut Queue<Trial>) -> Result<Heading, Decline> {
+    let mut count = 0;
+    let mut rest = body;
+    loop {
+        match first_command(rest, waiting.len())? {
+            Command::Draw(line) => {
+                keep_line(lines, count, line);
+                count += 1;
+            }
+            Command::Try(trial) => {
+                let _ = waiting.put(trial);
+            }
+            Command::End(aim) => return Ok(Heading { n, lines: count, aim }),
+        }
+        rest = &rest[COMMAND_LEN..];
+    }
+}
+
+/// Reads a file from left to right up to its first fault. Lines go to `lines`, those past its end are counted and not
+/// kept; trials wait in `waiting`.
+pub fn read_file(file: &[u8], lines: &mut [Line], waiting: &mut Queue<Trial>) -> Result<Heading, Decline> {
+    match file {
+        [b'N', n, rest @ ..] => read_body(*n, rest, lines, waiting),
+        [] | [b'N'] => Err(Decline::FileEnds),
+        [_, ..] => Err(Decline::NoCommand),
+    }
+}
