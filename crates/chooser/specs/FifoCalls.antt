@@ -24,9 +24,9 @@ Cleared d = arrivals d ≡ []
 -- a number below 252 that is no member comes last; any other changes nothing
 abbrev pub Put : Fifo → ℕ → Fifo → Type 0
 Put c v d =
-  (v < 252 → holds c v ≡ false → arrivals d ≡ arrivals c ++ v ∷ [])
-  × (holds c v ≡ true → d ≡ c)
-  × (252 ≤ v → d ≡ c)
+    (v < 252 → holds c v ≡ false → arrivals d ≡ arrivals c ++ v ∷ [])
+    × (holds c v ≡ true → d ≡ c)
+    × (252 ≤ v → d ≡ c)
 
 -- the first is taken
 abbrev pub TakenFirst : Fifo → Option ℕ → Fifo → Type 0

@@ -34,9 +34,9 @@ pub record Came (c : HighestLabel) (v l : ℕ) (d : HighestLabel) : Type 0 where
 -- a number below 252 that is no member comes last; any other changes nothing
 abbrev pub Put : HighestLabel → ℕ → ℕ → HighestLabel → Type 0
 Put c v l d =
-  (v < 252 → holds c v ≡ false → Came c v l d)
-  × (holds c v ≡ true → d ≡ c)
-  × (252 ≤ v → d ≡ c)
+    (v < 252 → holds c v ≡ false → Came c v l d)
+    × (holds c v ≡ true → d ≡ c)
+    × (252 ≤ v → d ≡ c)
 
 -- `v` has the highest label, is the first to have it, and is left out; all else stays
 pub record Picked (c : HighestLabel) (v : ℕ) (d : HighestLabel) : Type 0 where
@@ -48,6 +48,7 @@ pub record Picked (c : HighestLabel) (v : ℕ) (d : HighestLabel) : Type 0 where
   pub first : (u : ℕ) → 0 < times u earlier → label-of c u < label-of c v
   pub labels : (u : ℕ) → label-of d u ≡ label-of c u
 
+-- the earliest of highest label is taken
 abbrev pub TakenHighest : HighestLabel → Option ℕ → HighestLabel → Type 0
 TakenHighest c None d = (arrivals c ≡ []) × (d ≡ c)
 TakenHighest c (Some v) d = Picked c v d

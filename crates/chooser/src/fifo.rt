@@ -6,7 +6,7 @@ ghost use Rattle.chooser.specs.Lists.{flag, ones, run, times};
 
 pub mod calls;
 
-/// Takes in order of arrival. The members lie in a ring of 252 places, `count` of them from `head` on.
+/// Takes in order of arrival. The members lie in a ring of 252 places, `count` of them from `head` on, each once.
 #[derive(Drop)]
 pub struct Fifo {
     member: [bool; 252],

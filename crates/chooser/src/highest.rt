@@ -7,7 +7,7 @@ ghost use Rattle.chooser.specs.Lists.{flag, ones, times};
 pub mod calls;
 
 /// Takes the member of highest label, and of these the one that arrived earliest.
-/// The members lie in the first `count` places of `order`, in order of arrival.
+/// The members lie in the first `count` places of `order`, in order of arrival, each once.
 #[derive(Drop)]
 pub struct HighestLabel {
     member: [bool; 252],

@@ -7,6 +7,7 @@ ghost use Rattle.std.specs.declared.option.Option.{Option};
 
 mod fifo;
 mod highest;
+
 pub use fifo::Fifo;
 pub use fifo::calls::FifoChooser;
 pub use highest::HighestLabel;
@@ -29,7 +30,7 @@ pub trait Chooser {
 
     /// Leaves no member.
     fn clear(&mut self)
-        ensures set { λ _. ⌜ Empty (has (now (self .exit))) ⌝ }
+        ensures empty { λ _. ⌜ Empty (has (now (self .exit))) ⌝ }
         ensures clears { λ _. ⌜ clears (now (self .entry)) (now (self .exit)) ⌝ };
 
     /// Adds `v`, if it is below 252 and no member yet; otherwise nothing changes.

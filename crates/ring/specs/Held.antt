@@ -27,5 +27,6 @@ pub record At {A : Type 0} (places : List A) (head i at : ℕ) : Type 0 where
   pub reads : (d : A) → getD places at d ≡ getD (turned places head) i d
   pub writes : (x : A) → turned (set places at x) head ≡ set (turned places head) i x
 
+-- the same of a queue
 abbrev pub Stands : {A : Type 0} → Queue A → ℕ → ℕ → Type 0
 Stands q i at = At (now (q .places)) (q .head) i at

@@ -1,7 +1,11 @@
 //! A queue over memory that the caller lends.
 mod queue;
-pub use queue::calls::{Full, FullDebug, FullEq, FullPartialEq};
+
 pub use queue::Queue;
+pub use queue::calls::Full;
+pub use queue::calls::FullDebug;
+pub use queue::calls::FullEq;
+pub use queue::calls::FullPartialEq;
 
 #[cfg(test)]
 mod tests {
@@ -14,25 +18,32 @@ mod tests {
         by: u32,
     }
 
-    const BLANK: Trial = Trial { line: 0, by: 0 };
+    fn puts(queue: &mut Queue<Trial>, trials: &[Trial]) -> Result<(), Full> {
+        for trial in trials {
+            queue.put(*trial)?;
+        }
+        Ok(())
+    }
 
-    // Three places, four puts around two takes: the fourth item lies at the first place.
+    // The trials in order, and then none.
+    fn takes(queue: &mut Queue<Trial>, trials: &[Trial]) -> Result<(), Fail> {
+        for trial in trials {
+            check_eq(queue.take(), Some(*trial))?;
+        }
+        check_eq(queue.take(), None)
+    }
+
+    // The second round begins at the last of three places.
     #[test]
     fn turns_round() -> Result<(), Fail> {
-        let mut places = [BLANK; 3];
+        let a = Trial { line: 1, by: 10 };
+        let b = Trial { line: 2, by: 20 };
+        let mut places = [a; 3];
         let mut queue = Queue::new(&mut places);
-        for k in 1..4u32 {
-            queue.put(Trial { line: k, by: 10 * k })?;
-        }
-        check_eq(queue.put(BLANK), Err(Full))?;
-        check_eq(queue.take(), Some(Trial { line: 1, by: 10 }))?;
-        check_eq(queue.take(), Some(Trial { line: 2, by: 20 }))?;
-        queue.put(Trial { line: 4, by: 40 })?;
-        check_eq(queue.len(), 2)?;
-        check_eq(queue.nth(1), Some(Trial { line: 4, by: 40 }))?;
-        check_eq(queue.nth(2), None)?;
-        check_eq(queue.take(), Some(Trial { line: 3, by: 30 }))?;
-        check_eq(queue.take(), Some(Trial { line: 4, by: 40 }))?;
-        check_eq(queue.take(), None)
+        puts(&mut queue, &[a, b])?;
+        takes(&mut queue, &[a, b])?;
+        puts(&mut queue, &[b, a, a])?;
+        check_eq(queue.put(b), Err(Full))?;
+        takes(&mut queue, &[b, a, a])
     }
 }

@@ -8,11 +8,16 @@ use crate::Chooser;
 
 impl Fifo {
     /// Holds nothing.
-    pub fn new() -> Fifo
+    pub fn new() -> Self
         ensures empty { λ r. ⌜ Empty (holds r) ⌝ }
         ensures none { λ r. ⌜ arrivals r ≡ [] ⌝ }
     {
-        Fifo { member: [false; 252], ring: [0; 252], head: 0, count: 0 }
+        Fifo {
+            member: [false; 252],
+            ring: [0; 252],
+            head: 0,
+            count: 0,
+        }
     }
 }
 

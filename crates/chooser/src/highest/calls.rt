@@ -13,6 +13,7 @@ fn close(order: &mut [u8], at: usize, end: usize)
     requires { ⌜ at < end ⌝ ∗ ⌜ end ≤ length (now order) ⌝ }
     ensures before { λ _. ⌜ ((k : ℕ) → k < at → getD (now (order .exit)) k 0 ≡ getD (now (order .entry)) k 0) ⌝ }
     ensures after { λ _. ⌜ ((k : ℕ) → at ≤ k → k + 1 < end → getD (now (order .exit)) k 0 ≡ getD (now (order .entry)) (k + 1) 0) ⌝ }
+    ensures rest { λ _. ⌜ ((k : ℕ) → end ≤ k + 1 → getD (now (order .exit)) k 0 ≡ getD (now (order .entry)) k 0) ⌝ }
 {
     for j in at..end - 1 {
         order[j] = order[j + 1];
@@ -38,11 +39,16 @@ fn best(order: &[u8], labels: &[u32], count: usize) -> usize
 
 impl HighestLabel {
     /// Holds nothing.
-    pub fn new() -> HighestLabel
+    pub fn new() -> Self
         ensures empty { λ r. ⌜ Empty (holds r) ⌝ }
         ensures none { λ r. ⌜ arrivals r ≡ [] ⌝ }
     {
-        HighestLabel { member: [false; 252], labels: [0; 252], order: [0; 252], count: 0 }
+        HighestLabel {
+            member: [false; 252],
+            labels: [0; 252],
+            order: [0; 252],
+            count: 0,
+        }
     }
 }
 

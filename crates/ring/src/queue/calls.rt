@@ -18,7 +18,11 @@ impl<'a, T: Copy> Queue<'a, T> {
         ensures room { λ r. ⌜ room r ≡ length (now (places .entry)) ⌝ }
         ensures empty { λ r. ⌜ items r ≡ [] ⌝ }
     {
-        Queue { places, head: 0, len: 0 }
+        Queue {
+            places,
+            head: 0,
+            len: 0,
+        }
     }
 
     // The place of the item number `i` from the front, or of the next one to come.

@@ -1,6 +1,6 @@
 use mathlib.Core.Bool.{false, true}
 use mathlib.Core.List.{List}
-use mathlib.Core.Path.{_≡_, subst, sym}
+use mathlib.Core.Path.{subst, sym}
 use Prim.Native.Nat.{ℕ, _<_}
 use native.Mathlib.Omega.{arith}
 use lib.ListN.{length-set, length, set}
@@ -13,8 +13,8 @@ use Rattle.chooser.proofs.fifo.calls.FifoChooser.put.Needs as need
 
 free : (c : need.Then-not-self-at) → c .args .self .now .count < 252
 free c =
-  let s = c .args .self .now in
-  omega (arith, s .counted, s .wide .0, ones-room (s .member) (c .args .v) (omega (arith, s .wide .0)) (c .if-not-self-at .taken))
+    let s = c .args .self .now in
+    omega (arith, s .counted, s .wide .0, ones-room (s .member) (c .args .v) (omega (arith, s .wide .0)) (c .if-not-self-at .taken))
 
 pub add-end : need.add-end
 add-end c = omega (arith, free c, c .args .self .now .inside)
@@ -24,30 +24,39 @@ add-self c = omega (arith, free c)
 
 pub ghost-self : need.ghost-self
 ghost-self c =
-  let s = c .args .self .now in
-  let off = c .if-not-self-at .taken in
-  let small : c .args .v < length (s .member) = omega (arith, s .wide .0) in
-  let m = set (s .member) (c .args .v) true in
-  ( (simp length-set (s .wide .0), simp length-set (s .wide .1))
-  , (s .inside
-  , (omega (arith, s .counted, ones-on (s .member) (c .args .v) small off)
-  , (subst (λ (xs : List ℕ). Listed xs m) (sym (run-put (s .ring) (s .head) (s .count) (c .args .v) (s .wide .1) (free c)))
-      (listed-put _ (s .member) (c .args .v) small off (s .listed))
-  , tt ))))
+    let s = c .args .self .now in
+    let off = c .if-not-self-at .taken in
+    let small : c .args .v < length (s .member) = omega (arith, s .wide .0) in
+    let m = set (s .member) (c .args .v) true in (
+      (simp length-set (s .wide .0), simp length-set (s .wide .1)),
+      (
+        s .inside,
+        (
+          omega (arith, s .counted, ones-on (s .member) (c .args .v) small off),
+          (
+            subst (λ (xs : List ℕ). Listed xs m) (sym (run-put (s .ring) (s .head) (s .count) (c .args .v) (s .wide .1) (free c)))
+                (listed-put _ (s .member) (c .args .v) small off (s .listed)),
+            tt,
+          ),
+        ),
+      ),
+    )
 
 pub returns-then-not-self-at : need.returns-then-not-self-at
 returns-then-not-self-at c =
-  let s = c .args .self .now in
-  let off = c .if-not-self-at .taken in
-  let small : c .args .v < length (s .member) = omega (arith, s .wide .0) in
-  let room : s .count < 252 = omega (arith, s .counted, s .wide .0, ones-room (s .member) (c .args .v) small off) in
-  record
-  { set =
-    ( λ _. getD-set-same (s .member) (c .args .v) true false small
-    , λ h. absurd (omega arith)
-    , λ u ne. getD-set-other (s .member) (c .args .v) u true false ne )
-  ; puts =
-    ( λ _ _. run-put (s .ring) (s .head) (s .count) (c .args .v) (s .wide .1) room
-    , λ on. absurd (both-ways _ off on)
-    , λ h. absurd (omega arith) )
-  }
+    let s = c .args .self .now in
+    let off = c .if-not-self-at .taken in
+    let small : c .args .v < length (s .member) = omega (arith, s .wide .0) in
+    let room : s .count < 252 = omega (arith, s .counted, s .wide .0, ones-room (s .member) (c .args .v) small off) in
+    record {
+      set = (
+        λ _. getD-set-same (s .member) (c .args .v) true false small,
+        λ h. absurd (omega arith),
+        λ u ne. getD-set-other (s .member) (c .args .v) u true false ne,
+      );
+      puts = (
+        λ _ _. run-put (s .ring) (s .head) (s .count) (c .args .v) (s .wide .1) room,
+        λ on. absurd (both-ways _ off on),
+        λ h. absurd (omega arith),
+      );
+    }
