@@ -1,6 +1,7 @@
 //! What is looked for in a plant.
 ghost use mathlib.Core.Path.{_≡_};
 ghost use Rattle.plant.specs.Tests.{aim-numbered};
+ghost use Rattle.std.specs.declared.option.Option.the-variants.{Some};
 
 /// The greatest or the least total that the plant can carry.
 #[derive(Clone, Copy, PartialEq, Eq, Debug)]
@@ -18,6 +19,16 @@ impl Aim {
             1 => Some(Aim::Greatest),
             2 => Some(Aim::Least),
             _ => None,
+        }
+    }
+
+    /// The number of the aim.
+    pub fn number(&self) -> u8
+        ensures { λ r. ⌜ aim-numbered r ≡ Some (now (self .entry)) ⌝ }
+    {
+        match self {
+            Aim::Greatest => 1,
+            Aim::Least => 2,
         }
     }
 }
