@@ -59,7 +59,7 @@ pub reach : (f : ℕ → List ℕ) (i n : ℕ) → i < n → length (eachBelow i
 reach f i zero h = absurd (omega arith)
 reach f i (suc n) h =
     let l = length-append (eachBelow n f) (f n) in
-    ⊎-elim (λ lt. let r = reach f i n lt in omega arith) (λ le. let e : i ≡ n = omega arith in rw e (omega arith)) (order i n)
+    ⊎-elim (λ lt. let r = reach f i n lt in omega arith) (λ (le : n ≤ i). let e : i ≡ n = omega arith in rw e (omega arith)) (order i n)
 
 pub one-more-row : (f : ℕ → List ℕ) (i : ℕ) {a b d : List ℕ} {s at r : ℕ} → Puts (eachBelow i f) a s at b → Puts (f i) b at r d → r ≤ length a → Puts (eachBelow (i + 1) f) a s r d
 one-more-row f i p q room = rw add-one (then-puts p q room)

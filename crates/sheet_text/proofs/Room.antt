@@ -14,10 +14,8 @@ use Rattle.std.specs.declared.option.Option.the-variants.{None, Some}
 use Rattle.std.proofs.shelf.Decimals.{length-decimal-le}
 use Rattle.plant.specs.declared.aim.Aim.{Aim}
 use Rattle.plant.specs.declared.aim.Aim.the-variants.{Greatest, Least}
-use Rattle.sheet_text.specs.declared.text.FlowSheet.{FlowSheet}
-use Rattle.sheet_text.specs.declared.text.HurdleSheet.{HurdleSheet}
 use Rattle.sheet_text.specs.declared.text.Tried.{Tried}
-use Rattle.sheet_text.specs.Text.{Fits-hurdle, hurdleText, eachBelow, blank, newline, flowRow, marked, member, members, cutRow, totalText, trialRow, aimName, headRow, nothing, flowRows, trialRows, flowText, Sized, Fits-flow}
+use Rattle.sheet_text.specs.Text.{eachBelow, blank, newline, flowRow, marked, member, members, cutRow, totalText, trialRow, aimName, headRow, nothing, flowRows, trialRows, Sized, Small-flows, Small-trials}
 
 below : (f : ℕ → List ℕ) (w n : ℕ) → ((i : ℕ) → i < n → length (f i) ≤ w) → length (eachBelow n f) ≤ w * n
 below f w zero h = omega arith
@@ -52,53 +50,42 @@ head-room : (a : Aim) (x : ℕ) → x < 2 ^ 32 → length (headRow a x) ≤ 20
 head-room Greatest x h = let p = length-decimal-le 10 x (omega arith) (omega arith) (omega arith) in simp length-append (omega arith)
 head-room Least x h = let p = length-decimal-le 10 x (omega arith) (omega arith) (omega arith) in simp length-append (omega arith)
 
--- 20 + 12000 + 1005 + 1004 + 1472
-pub sheet-room : (s : FlowSheet) → Fits-flow s → length (flowText s) ≤ 16384
-sheet-room s h =
-    let flows = s .flows .now in
-    let near = s .near .now in
-    let far = s .far .now in
-    let trials = s .trials .now in
-    let a = head-room (s .aim) (s .total) (h .total) in
-    let lines = h .lines in
-    let b = below (λ i. flowRow i (getD flows i 0)) 12 (length flows) (λ i lt. row-room i (getD flows i 0) (omega arith) (h .flows i lt)) in
-    let n = h .near in
-    let d = below (member near) 4 (length near) (λ v lt. marked-room (getD near v false) v (omega arith)) in
-    let f = h .far in
-    let e = below (member far) 4 (length far) (λ v lt. marked-room (getD far v false) v (omega arith)) in
-    let few = h .few in
-    let g = below (λ i. trialRow (getD trials i nothing)) 23 (length trials) (λ i lt. trial-room (getD trials i nothing) (h .trials i lt)) in
-    let l0 = length-append (headRow (s .aim) (s .total)) (flowRows flows ++ (cutRow (codes "NEAR") near ++ (cutRow (codes "FAR") far ++ trialRows trials))) in
-    let l1 = length-append (flowRows flows) (cutRow (codes "NEAR") near ++ (cutRow (codes "FAR") far ++ trialRows trials)) in
-    let l2 = length-append (cutRow (codes "NEAR") near) (cutRow (codes "FAR") far ++ trialRows trials) in
-    let l3 = length-append (cutRow (codes "FAR") far) (trialRows trials) in
-    let l4 = length-append (members near) newline in
-    let l5 = length-append (members far) newline in
+rows-room : (ts : List Tried) → Small-trials ts → length (trialRows ts) ≤ 1472
+rows-room ts h =
+    let few = h .0 in
+    let g = below (λ i. trialRow (getD ts i nothing)) 23 (length ts) (λ i lt. trial-room (getD ts i nothing) (h .1 i lt)) in
     omega arith
 
--- the same, part by part
-pub parts-room : (s : FlowSheet) → Fits-flow s → length (headRow (s .aim) (s .total)) + (length (flowRows (s .flows .now)) + (length (cutRow (codes "NEAR") (s .near .now)) + (length (cutRow (codes "FAR") (s .far .now)) + length (trialRows (s .trials .now))))) ≤ 16384
-parts-room s h =
-    let near = cutRow (codes "NEAR") (s .near .now) in
-    let far = cutRow (codes "FAR") (s .far .now) in
-    let l0 = length-append (headRow (s .aim) (s .total)) (flowRows (s .flows .now) ++ (near ++ (far ++ trialRows (s .trials .now)))) in
-    let l1 = length-append (flowRows (s .flows .now)) (near ++ (far ++ trialRows (s .trials .now))) in
-    let l2 = length-append near (far ++ trialRows (s .trials .now)) in
-    let l3 = length-append far (trialRows (s .trials .now)) in
-    let r = sheet-room s h in
+cut-room : (name : List ℕ) (set : List Bool) → length name ≤ 6 → length set ≤ 250 → length (cutRow name set) ≤ 1007
+cut-room name set few n =
+    let d = below (member set) 4 (length set) (λ v lt. marked-room (getD set v false) v (omega arith)) in
+    let l0 = length-append name (members set ++ newline) in
+    let l1 = length-append (members set) newline in
     omega arith
 
--- the parts of the listing of an impossible plant
-pub hurdle-room : (s : HurdleSheet) → Fits-hurdle s → length (codes "IMPOSSIBLE " ++ (decimal (s .shortfall) ++ newline)) + (length (cutRow (codes "HURDLE") (s .hurdle .now)) + length (trialRows (s .trials .now))) ≤ 16384
-hurdle-room s h =
-    let hurdle = s .hurdle .now in
-    let trials = s .trials .now in
-    let short = h .shortfall in
-    let a = length-decimal-le 10 (s .shortfall) (omega arith) (omega arith) (omega arith) in
-    let n = h .hurdle in
-    let d = below (member hurdle) 4 (length hurdle) (λ v lt. marked-room (getD hurdle v false) v (omega arith)) in
-    let few = h .few in
-    let g = below (λ i. trialRow (getD trials i nothing)) 23 (length trials) (λ i lt. trial-room (getD trials i nothing) (h .trials i lt)) in
-    let l0 = length-append (decimal (s .shortfall)) newline in
-    let l1 = length-append (members hurdle) newline in
+flows-room : (fs : List ℕ) → Small-flows fs → length (flowRows fs) ≤ 12000
+flows-room fs h =
+    let lines = h .0 in
+    let b = below (λ i. flowRow i (getD fs i 0)) 12 (length fs) (λ i lt. row-room i (getD fs i 0) (omega arith) (h .1 i lt)) in
+    omega arith
+
+-- 20 + 12000 + 1007 + 1007 + 1472
+pub flow-parts : (aim : Aim) (total : ℕ) (fs : List ℕ) (near far : List Bool) (ts : List Tried) → total < 2 ^ 32 → Small-flows fs → length near ≤ 250 → length far ≤ 250 → Small-trials ts →
+    length (headRow aim total) + (length (flowRows fs) + (length (cutRow (codes "NEAR") near) + (length (cutRow (codes "FAR") far) + length (trialRows ts)))) ≤ 16384
+flow-parts aim total fs near far ts t f n m s =
+    let a = head-room aim total t in
+    let b = flows-room fs f in
+    let d = cut-room (codes "NEAR") near (omega arith) n in
+    let e = cut-room (codes "FAR") far (omega arith) m in
+    let g = rows-room ts s in
+    omega arith
+
+-- 22 + 1007 + 1472
+pub hurdle-parts : (shortfall : ℕ) (hurdle : List Bool) (ts : List Tried) → shortfall < 2 ^ 32 → length hurdle ≤ 250 → Small-trials ts →
+    length (codes "IMPOSSIBLE " ++ (decimal shortfall ++ newline)) + (length (cutRow (codes "HURDLE") hurdle) + length (trialRows ts)) ≤ 16384
+hurdle-parts x hurdle ts t n s =
+    let a = length-decimal-le 10 x (omega arith) (omega arith) (omega arith) in
+    let l0 = length-append (decimal x) newline in
+    let d = cut-room (codes "HURDLE") hurdle (omega arith) n in
+    let g = rows-room ts s in
     omega arith

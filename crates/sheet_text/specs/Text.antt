@@ -10,8 +10,6 @@ use Rattle.std.specs.declared.option.Option.{Option}
 use Rattle.std.specs.declared.option.Option.the-variants.{None, Some}
 use Rattle.plant.specs.declared.aim.Aim.{Aim}
 use Rattle.plant.specs.declared.aim.Aim.the-variants.{Greatest, Least}
-use Rattle.sheet_text.specs.declared.text.FlowSheet.{FlowSheet}
-use Rattle.sheet_text.specs.declared.text.HurdleSheet.{HurdleSheet}
 use Rattle.sheet_text.specs.declared.text.Tried.{Tried}
 
 -- buf with bs from place i on
@@ -77,21 +75,21 @@ flowRows xs = eachBelow (length xs) (λ i. flowRow i (getD xs i 0))
 abbrev pub trialRows : List Tried → List ℕ
 trialRows ts = eachBelow (length ts) (λ i. trialRow (getD ts i nothing))
 
--- aim and total, line number and flow, splits, trials
-abbrev pub flowText : FlowSheet → List ℕ
-flowText s =
-    headRow (s .aim) (s .total)
-    ++ (flowRows (s .flows .now)
-    ++ (cutRow (codes "NEAR") (s .near .now)
-    ++ (cutRow (codes "FAR") (s .far .now)
-    ++ trialRows (s .trials .now))))
+-- aim and total, line number and flow, cuts, trials
+abbrev pub flowText : Aim → ℕ → List ℕ → List Bool → List Bool → List Tried → List ℕ
+flowText aim total flows near far trials =
+    headRow aim total
+    ++ (flowRows flows
+    ++ (cutRow (codes "NEAR") near
+    ++ (cutRow (codes "FAR") far
+    ++ trialRows trials)))
 
 -- shortfall, hurdle, trials
-abbrev pub hurdleText : HurdleSheet → List ℕ
-hurdleText s =
-    (codes "IMPOSSIBLE " ++ (decimal (s .shortfall) ++ newline))
-    ++ (cutRow (codes "HURDLE") (s .hurdle .now)
-    ++ trialRows (s .trials .now))
+abbrev pub hurdleText : ℕ → List Bool → List Tried → List ℕ
+hurdleText shortfall hurdle trials =
+    (codes "IMPOSSIBLE " ++ (decimal shortfall ++ newline))
+    ++ (cutRow (codes "HURDLE") hurdle
+    ++ trialRows trials)
 
 -- "DECLINED 11"
 abbrev pub declinedText : ℕ → List ℕ
@@ -101,19 +99,10 @@ declinedText d = codes "DECLINED " ++ (decimal d ++ newline)
 abbrev pub Sized : Tried → Type 0
 Sized t = (t .line < 2 ^ 16) × ((x : ℕ) → t .total ≡ Some x → x < 2 ^ 32)
 
--- what a plant with a flow keeps to
-pub record Fits-flow (s : FlowSheet) : Type 0 where
-  pub total : s .total < 2 ^ 32
-  pub lines : length (s .flows .now) ≤ 1000
-  pub flows : (i : ℕ) → i < length (s .flows .now) → getD (s .flows .now) i 0 ≤ 1000000
-  pub near : length (s .near .now) ≤ 250
-  pub far : length (s .far .now) ≤ 250
-  pub few : length (s .trials .now) ≤ 64
-  pub trials : (i : ℕ) → i < length (s .trials .now) → Sized (getD (s .trials .now) i nothing)
+-- at most 64 trials of such numbers
+abbrev pub Small-trials : List Tried → Type 0
+Small-trials ts = (length ts ≤ 64) × ((i : ℕ) → i < length ts → Sized (getD ts i nothing))
 
--- what an impossible plant keeps to
-pub record Fits-hurdle (s : HurdleSheet) : Type 0 where
-  pub shortfall : s .shortfall < 2 ^ 32
-  pub hurdle : length (s .hurdle .now) ≤ 250
-  pub few : length (s .trials .now) ≤ 64
-  pub trials : (i : ℕ) → i < length (s .trials .now) → Sized (getD (s .trials .now) i nothing)
+-- at most 1,000 flows of at most 1,000,000
+abbrev pub Small-flows : List ℕ → Type 0
+Small-flows fs = (length fs ≤ 1000) × ((i : ℕ) → i < length fs → getD fs i 0 ≤ 1000000)

@@ -24,8 +24,6 @@ use plantfile::Trial;
 use plantfile::read_file;
 use reach::JunctionSet;
 use ring::Queue;
-use super::text::FlowSheet;
-use super::text::HurdleSheet;
 use super::text::NOTHING_TRIED;
 use super::text::Tried;
 use super::text::put_declined;
@@ -57,11 +55,12 @@ fn read_checked(file: &[u8], lines: &mut [Line; MAX_LINES], waiting: &mut Queue<
 {
     let heading = read_file(file, lines, waiting)?;
     test_list(heading.n, &[])?;
-    if heading.lines > MAX_LINES {
+    let count = heading.lines;
+    if count > MAX_LINES {
         return Err(Decline::LineCount);
     }
-    test_list(heading.n, &lines[0..heading.lines])?;
-    test_trials(heading.lines, waiting)?;
+    test_list(heading.n, &lines[0..count])?;
+    test_trials(count, waiting)?;
     Ok(heading)
 }
 
@@ -83,13 +82,22 @@ fn shown(total: i64) -> u64
     total.unsigned_abs().min(u32::MAX as u64)
 }
 
+// The flow of one line.
+fn flow_of(planner: &Planner<Fifo>, line: u16) -> Result<u32, Decline>
+    ensures { λ r. ⌜ made r (λ x. x ≤ 1000000) ⌝ }
+{
+    let flow = planner.flow(line)?;
+    Ok(flow.min(MAX_LIMIT))
+}
+
 // The flows of all lines.
 fn read_flows(planner: &Planner<Fifo>, flows: &mut [u32]) -> Result<(), Decline>
     requires { ⌜ length (now flows) ≤ 1000 ⌝ }
     ensures { λ r. ⌜ made r (λ _. (k : ℕ) → k < length (now (flows .exit)) → getD (now (flows .exit)) k 0 ≤ 1000000) ⌝ }
 {
     for k in 0..flows.len() {
-        flows[k] = planner.flow(k as u16)?.min(MAX_LIMIT);
+        let flow = flow_of(planner, k as u16)?;
+        flows[k] = flow;
     }
     Ok(())
 }
@@ -128,16 +136,17 @@ fn try_all(
     heading: &Heading,
     lines: &mut [Line],
     waiting: &mut Queue<Trial>,
-    tried: &mut [Tried; MAX_TRIALS],
+    tried: &mut [Tried],
 ) -> Result<usize, Decline>
-    ensures { λ r. ⌜ made r (λ m. (m ≤ 64) × ((k : ℕ) → k < m → Sized (getD (now (tried .exit)) k nothing))) ⌝ }
+    ensures { λ r. ⌜ made r (λ m. (m ≤ length (now (tried .exit))) × ((k : ℕ) → k < m → Sized (getD (now (tried .exit)) k nothing))) ⌝ }
 {
     let mut count = 0;
-    while count < MAX_TRIALS {
+    while count < tried.len() {
         let Some(trial) = waiting.take() else {
             break;
         };
-        tried[count] = try_one(planner, heading, lines, trial)?;
+        let one = try_one(planner, heading, lines, trial)?;
+        tried[count] = one;
         count += 1;
     }
     Ok(count)
@@ -152,6 +161,7 @@ fn list_flow(
     out: &mut [u8],
 ) -> Result<usize, Decline>
     requires { ⌜ length (now lines) ≤ 1000 ⌝ ∗ ⌜ now heading .n ≤ 250 ⌝ ∗ ⌜ 16384 ≤ length (now out) ⌝ }
+    ensures { λ r. ⌜ made r (λ len. len ≤ 16384) ⌝ }
 {
     let n = heading.n as usize;
     let total = shown(planner.total()?);
@@ -162,15 +172,7 @@ fn list_flow(
     let far = read_cut(planner, Side::Far)?;
     let mut tried = [NOTHING_TRIED; MAX_TRIALS];
     let count = try_all(planner, heading, lines, waiting, &mut tried)?;
-    let sheet = FlowSheet {
-        aim: heading.aim,
-        total,
-        flows,
-        near: &near[0..n],
-        far: &far[0..n],
-        trials: &tried[0..count],
-    };
-    Ok(put_flow_sheet(&sheet, out))
+    Ok(put_flow_sheet(heading.aim, total, flows, &near[0..n], &far[0..n], &tried[0..count], out))
 }
 
 // The listing of a plant that is impossible.
@@ -182,22 +184,22 @@ fn list_hurdle(
     out: &mut [u8],
 ) -> Result<usize, Decline>
     requires { ⌜ now heading .n ≤ 250 ⌝ ∗ ⌜ 16384 ≤ length (now out) ⌝ }
+    ensures { λ r. ⌜ made r (λ len. len ≤ 16384) ⌝ }
 {
     let mut bytes = [0u8; 32];
     let (_, shortfall) = planner.hurdle(&mut bytes)?;
     let hurdle = marks_of(&bytes);
     let mut tried = [NOTHING_TRIED; MAX_TRIALS];
     let count = try_all(planner, heading, lines, waiting, &mut tried)?;
-    let sheet = HurdleSheet {
-        shortfall: shortfall.min(u32::MAX as u64),
-        hurdle: &hurdle[0..heading.n as usize],
-        trials: &tried[0..count],
-    };
-    Ok(put_hurdle_sheet(&sheet, out))
+    let n = heading.n as usize;
+    let shortfall = shortfall.min(u32::MAX as u64);
+    Ok(put_hurdle_sheet(shortfall, &hurdle[0..n], &tried[0..count], out))
 }
 
 /// The listing of a plant file, into the front of a buffer of at least 16,384 bytes; answers its length.
-pub fn write_listing(file: &[u8], out: &mut [u8]) -> Result<usize, Decline> {
+pub fn write_listing(file: &[u8], out: &mut [u8]) -> Result<usize, Decline>
+    ensures { λ r. ⌜ made r (λ len. (len ≤ 16384) × (16384 ≤ length (now (out .exit)))) ⌝ }
+{
     let mut lines = [BLANK_LINE; MAX_LINES];
     let mut places = [BLANK_TRIAL; MAX_TRIALS];
     let mut waiting = Queue::new(&mut places);
@@ -205,7 +207,8 @@ pub fn write_listing(file: &[u8], out: &mut [u8]) -> Result<usize, Decline> {
     if out.len() < SHEET_LEN {
         return Err(Decline::BufferLength);
     }
-    let lines = &mut lines[0..heading.lines];
+    let count = heading.lines;
+    let lines = &mut lines[0..count];
     let mut planner = Planner::new(Fifo::new());
     planner.start(heading.n, lines, heading.aim.number())?;
     match settle(&mut planner)? {
@@ -216,7 +219,9 @@ pub fn write_listing(file: &[u8], out: &mut [u8]) -> Result<usize, Decline> {
 
 /// The listing of a plant file, or the line that says by which number it is declined, into the front of a buffer;
 /// answers its length. Declines only a buffer of fewer than 16,384 bytes.
-pub fn write_text(file: &[u8], out: &mut [u8]) -> Result<usize, Decline> {
+pub fn write_text(file: &[u8], out: &mut [u8]) -> Result<usize, Decline>
+    ensures { λ r. ⌜ made r (λ len. (len ≤ 16384) × (16384 ≤ length (now (out .exit)))) ⌝ }
+{
     if out.len() < SHEET_LEN {
         return Err(Decline::BufferLength);
     }
@@ -230,7 +235,7 @@ pub fn write_text(file: &[u8], out: &mut [u8]) -> Result<usize, Decline> {
 #[unsafe(no_mangle)]
 pub extern "C" fn widgulp_listing(file: &[u8], out: &mut [u8]) -> i64 {
     match write_listing(file, out) {
-        Ok(len) => len.min(SHEET_LEN) as i64,
+        Ok(len) => len as i64,
         Err(decline) => -(decline.number() as i64),
     }
 }

@@ -3,9 +3,9 @@ ghost use lib.Chars.{codes};
 ghost use lib.ListN.{getD, length};
 ghost use mathlib.Core.List.{List, [], _++_, _∷_};
 ghost use mathlib.Core.Path.{_≡_};
-ghost use Prim.Native.Nat.{ℕ, _+_, _<_, _≤_};
+ghost use Prim.Native.Nat.{ℕ, _+_, _<_, _^_, _≤_};
 ghost use Rattle.plant.specs.Numbers.{number-of};
-ghost use Rattle.sheet_text.specs.Text.{aimName, cutRow, declinedText, Fits-flow, Fits-hurdle, flowRow, flowRows, flowText, headRow, hurdleText, marked, members, newline, Puts, totalText, trialRow, trialRows};
+ghost use Rattle.sheet_text.specs.Text.{aimName, cutRow, declinedText, flowRow, flowRows, flowText, headRow, hurdleText, marked, members, newline, Puts, Small-flows, Small-trials, totalText, trialRow, trialRows};
 ghost use Rattle.std.specs.Written.{decimal};
 use plant::Aim;
 use plant::AimDebug;
@@ -21,25 +21,6 @@ pub struct Tried {
 
 /// Fills a place that holds no trial yet.
 pub const NOTHING_TRIED: Tried = Tried { line: 0, total: None };
-
-/// What a sheet says of a plant with a flow; the cuts are marks below n.
-#[derive(Clone, Copy)]
-pub struct FlowSheet<'a> {
-    pub aim: Aim,
-    pub total: u64,
-    pub flows: &'a [u32],
-    pub near: &'a [bool],
-    pub far: &'a [bool],
-    pub trials: &'a [Tried],
-}
-
-/// What a sheet says of an impossible plant; the hurdle is marks below n.
-#[derive(Clone, Copy)]
-pub struct HurdleSheet<'a> {
-    pub shortfall: u64,
-    pub hurdle: &'a [bool],
-    pub trials: &'a [Tried],
-}
 
 // Bytes into the buffer from `at` on; answers where they end.
 fn put(out: &mut [u8], at: usize, bytes: &[u8]) -> usize
@@ -166,16 +147,30 @@ fn put_head(out: &mut [u8], at: usize, aim: Aim, total: u64) -> usize
     put(out, at, b"\n")
 }
 
-/// The listing of a plant with a flow into a buffer of at least 16,384 bytes; answers its length.
-pub fn put_flow_sheet(sheet: &FlowSheet, out: &mut [u8]) -> usize
-    requires { ⌜ Fits-flow (now sheet) ⌝ ∗ ⌜ 16384 ≤ length (now out) ⌝ }
-    ensures { λ r. ⌜ Puts (flowText (now (sheet .entry))) (now (out .entry)) 0 r (now (out .exit)) ⌝ }
+/// The listing of a plant with a flow into a buffer of at least 16,384 bytes, the cuts as marks below n; answers its
+/// length.
+pub fn put_flow_sheet(
+    aim: Aim,
+    total: u64,
+    flows: &[u32],
+    near: &[bool],
+    far: &[bool],
+    trials: &[Tried],
+    out: &mut [u8],
+) -> usize
+    requires total { ⌜ total < 2 ^ 32 ⌝ }
+    requires flows { ⌜ Small-flows (now flows) ⌝ }
+    requires cuts { ⌜ length (now near) ≤ 250 ⌝ ∗ ⌜ length (now far) ≤ 250 ⌝ }
+    requires trials { ⌜ Small-trials (now trials) ⌝ }
+    requires room { ⌜ 16384 ≤ length (now out) ⌝ }
+    ensures short { λ r. ⌜ r ≤ 16384 ⌝ }
+    ensures text { λ r. ⌜ Puts (flowText aim total (now (flows .entry)) (now (near .entry)) (now (far .entry)) (now (trials .entry))) (now (out .entry)) 0 r (now (out .exit)) ⌝ }
 {
-    let at = put_head(out, 0, sheet.aim, sheet.total);
-    let at = put_flows(out, at, sheet.flows);
-    let at = put_cut(out, at, b"NEAR", sheet.near);
-    let at = put_cut(out, at, b"FAR", sheet.far);
-    put_trials(out, at, sheet.trials)
+    let at = put_head(out, 0, aim, total);
+    let at = put_flows(out, at, flows);
+    let at = put_cut(out, at, b"NEAR", near);
+    let at = put_cut(out, at, b"FAR", far);
+    put_trials(out, at, trials)
 }
 
 fn put_shortfall(out: &mut [u8], at: usize, shortfall: u64) -> usize
@@ -187,20 +182,26 @@ fn put_shortfall(out: &mut [u8], at: usize, shortfall: u64) -> usize
     put(out, at, b"\n")
 }
 
-/// The listing of an impossible plant into a buffer of at least 16,384 bytes; answers its length.
-pub fn put_hurdle_sheet(sheet: &HurdleSheet, out: &mut [u8]) -> usize
-    requires { ⌜ Fits-hurdle (now sheet) ⌝ ∗ ⌜ 16384 ≤ length (now out) ⌝ }
-    ensures { λ r. ⌜ Puts (hurdleText (now (sheet .entry))) (now (out .entry)) 0 r (now (out .exit)) ⌝ }
+/// The listing of an impossible plant into a buffer of at least 16,384 bytes, the hurdle as marks below n; answers its
+/// length.
+pub fn put_hurdle_sheet(shortfall: u64, hurdle: &[bool], trials: &[Tried], out: &mut [u8]) -> usize
+    requires shortfall { ⌜ shortfall < 2 ^ 32 ⌝ }
+    requires hurdle { ⌜ length (now hurdle) ≤ 250 ⌝ }
+    requires trials { ⌜ Small-trials (now trials) ⌝ }
+    requires room { ⌜ 16384 ≤ length (now out) ⌝ }
+    ensures short { λ r. ⌜ r ≤ 16384 ⌝ }
+    ensures text { λ r. ⌜ Puts (hurdleText shortfall (now (hurdle .entry)) (now (trials .entry))) (now (out .entry)) 0 r (now (out .exit)) ⌝ }
 {
-    let at = put_shortfall(out, 0, sheet.shortfall);
-    let at = put_cut(out, at, b"HURDLE", sheet.hurdle);
-    put_trials(out, at, sheet.trials)
+    let at = put_shortfall(out, 0, shortfall);
+    let at = put_cut(out, at, b"HURDLE", hurdle);
+    put_trials(out, at, trials)
 }
 
 /// The line that says by which number a file is declined; answers its length.
 pub fn put_declined(decline: Decline, out: &mut [u8]) -> usize
     requires { ⌜ 16384 ≤ length (now out) ⌝ }
-    ensures { λ r. ⌜ Puts (declinedText (number-of decline)) (now (out .entry)) 0 r (now (out .exit)) ⌝ }
+    ensures short { λ r. ⌜ r ≤ 16384 ⌝ }
+    ensures text { λ r. ⌜ Puts (declinedText (number-of decline)) (now (out .entry)) 0 r (now (out .exit)) ⌝ }
 {
     let at = put(out, 0, b"DECLINED ");
     let at = put_number(out, at, decline.number() as u64);

@@ -23,4 +23,4 @@ pub returns : need.returns
 returns c =
     let b : c .number .result < 256 = search needs in
     let l = short (c .number .result) b in
-    same-text (ap declinedText (c .number .ensures)) (then-puts (c .put-at .ensures) (then-puts (c .put-number-at .ensures) (c .put .ensures) (omega arith)) (omega arith))
+    record { short = omega (arith, c .put .ensures .end, c .put-number-at .ensures .end, c .put-at .ensures .end); text = same-text (ap declinedText (c .number .ensures)) (then-puts (c .put-at .ensures) (then-puts (c .put-number-at .ensures) (c .put .ensures) (omega arith)) (omega arith)) }
