@@ -3,9 +3,9 @@
 mod tests {
     use chooser::Fifo;
     use chooser::FifoChooser;
+    use planner::Planner;
     use plant::DeclineDebug;
     use plant::Line;
-    use planner::Planner;
     use plantfile::Trial;
     use sheet_text::SHEET_LEN;
     use sheet_text::widgulp_listing;
@@ -25,7 +25,12 @@ mod tests {
     }
 
     fn line(from: u8, to: u8, low: u32, high: u32) -> Line {
-        Line { from, to, low, high }
+        Line {
+            from,
+            to,
+            low,
+            high,
+        }
     }
 
     fn trial(line: u16, low: u32, high: u32) -> Trial {
@@ -71,44 +76,185 @@ mod tests {
     }
 
     // The single line, the series pair, the four-junction plant and the impossible pair, with their trials.
-    const ONE: [Line; 1] = [Line { from: 0, to: 1, low: 4, high: 9 }];
+    const ONE: [Line; 1] = [Line {
+        from: 0,
+        to: 1,
+        low: 4,
+        high: 9,
+    }];
 
-    const ONES: [Trial; 2] = [Trial { line: 0, low: 3, high: 9 }, Trial { line: 0, low: 4, high: 10 }];
+    const ONES: [Trial; 2] = [
+        Trial {
+            line: 0,
+            low: 3,
+            high: 9,
+        },
+        Trial {
+            line: 0,
+            low: 4,
+            high: 10,
+        },
+    ];
 
-    const PAIR: [Line; 2] = [Line { from: 0, to: 2, low: 0, high: 3 }, Line { from: 2, to: 1, low: 0, high: 3 }];
+    const PAIR: [Line; 2] = [
+        Line {
+            from: 0,
+            to: 2,
+            low: 0,
+            high: 3,
+        },
+        Line {
+            from: 2,
+            to: 1,
+            low: 0,
+            high: 3,
+        },
+    ];
 
-    const PAIRS: [Trial; 1] = [Trial { line: 0, low: 0, high: 4 }];
+    const PAIRS: [Trial; 1] = [Trial {
+        line: 0,
+        low: 0,
+        high: 4,
+    }];
 
     const FOUR: [Line; 4] = [
-        Line { from: 0, to: 2, low: 2, high: 6 },
-        Line { from: 2, to: 3, low: 0, high: 4 },
-        Line { from: 3, to: 1, low: 1, high: 5 },
-        Line { from: 2, to: 1, low: 0, high: 1 },
+        Line {
+            from: 0,
+            to: 2,
+            low: 2,
+            high: 6,
+        },
+        Line {
+            from: 2,
+            to: 3,
+            low: 0,
+            high: 4,
+        },
+        Line {
+            from: 3,
+            to: 1,
+            low: 1,
+            high: 5,
+        },
+        Line {
+            from: 2,
+            to: 1,
+            low: 0,
+            high: 1,
+        },
     ];
 
     const FOURS: [Trial; 3] = [
-        Trial { line: 1, low: 0, high: 5 },
-        Trial { line: 0, low: 2, high: 7 },
-        Trial { line: 0, low: 1, high: 6 },
+        Trial {
+            line: 1,
+            low: 0,
+            high: 5,
+        },
+        Trial {
+            line: 0,
+            low: 2,
+            high: 7,
+        },
+        Trial {
+            line: 0,
+            low: 1,
+            high: 6,
+        },
     ];
 
-    const BAD: [Trial; 1] = [Trial { line: 3, low: 1, high: 0 }];
+    const BAD: [Trial; 1] = [Trial {
+        line: 3,
+        low: 1,
+        high: 0,
+    }];
 
-    const SHORT: [Line; 2] = [Line { from: 0, to: 2, low: 0, high: 2 }, Line { from: 2, to: 1, low: 3, high: 5 }];
+    const SHORT: [Line; 2] = [
+        Line {
+            from: 0,
+            to: 2,
+            low: 0,
+            high: 2,
+        },
+        Line {
+            from: 2,
+            to: 1,
+            low: 3,
+            high: 5,
+        },
+    ];
 
-    const SHORTS: [Trial; 2] = [Trial { line: 0, low: 0, high: 3 }, Trial { line: 0, low: 0, high: 1 }];
+    const SHORTS: [Trial; 2] = [
+        Trial {
+            line: 0,
+            low: 0,
+            high: 3,
+        },
+        Trial {
+            line: 0,
+            low: 0,
+            high: 1,
+        },
+    ];
 
     #[test]
     fn worked_plants(rt: LibcRuntime) -> Result<(), Fail> {
         let cases = [
-            Case { n: 2, lines: &[], trials: &[], aim: b'G', sheet: b"GREATEST 0\nNEAR 0\nFAR 0\n" },
-            Case { n: 2, lines: &[], trials: &[], aim: b'M', sheet: b"LEAST 0\nNEAR 0\nFAR 0\n" },
-            Case { n: 2, lines: &ONE, trials: &ONES, aim: b'G', sheet: b"GREATEST 9\n0 9\nNEAR 0\nFAR 0\nTRIAL 0 9\nTRIAL 0 10\n" },
-            Case { n: 2, lines: &ONE, trials: &ONES, aim: b'M', sheet: b"LEAST 4\n0 4\nNEAR 0\nFAR 0\nTRIAL 0 3\nTRIAL 0 4\n" },
-            Case { n: 3, lines: &[], trials: &[], aim: b'G', sheet: b"GREATEST 0\nNEAR 0\nFAR 0 2\n" },
-            Case { n: 3, lines: &[], trials: &[], aim: b'M', sheet: b"LEAST 0\nNEAR 0\nFAR 0 2\n" },
-            Case { n: 3, lines: &PAIR, trials: &PAIRS, aim: b'G', sheet: b"GREATEST 3\n0 3\n1 3\nNEAR 0\nFAR 0 2\nTRIAL 0 3\n" },
-            Case { n: 3, lines: &PAIR, trials: &PAIRS, aim: b'M', sheet: b"LEAST 0\n0 0\n1 0\nNEAR 0\nFAR 0 2\nTRIAL 0 0\n" },
+            Case {
+                n: 2,
+                lines: &[],
+                trials: &[],
+                aim: b'G',
+                sheet: b"GREATEST 0\nNEAR 0\nFAR 0\n",
+            },
+            Case {
+                n: 2,
+                lines: &[],
+                trials: &[],
+                aim: b'M',
+                sheet: b"LEAST 0\nNEAR 0\nFAR 0\n",
+            },
+            Case {
+                n: 2,
+                lines: &ONE,
+                trials: &ONES,
+                aim: b'G',
+                sheet: b"GREATEST 9\n0 9\nNEAR 0\nFAR 0\nTRIAL 0 9\nTRIAL 0 10\n",
+            },
+            Case {
+                n: 2,
+                lines: &ONE,
+                trials: &ONES,
+                aim: b'M',
+                sheet: b"LEAST 4\n0 4\nNEAR 0\nFAR 0\nTRIAL 0 3\nTRIAL 0 4\n",
+            },
+            Case {
+                n: 3,
+                lines: &[],
+                trials: &[],
+                aim: b'G',
+                sheet: b"GREATEST 0\nNEAR 0\nFAR 0 2\n",
+            },
+            Case {
+                n: 3,
+                lines: &[],
+                trials: &[],
+                aim: b'M',
+                sheet: b"LEAST 0\nNEAR 0\nFAR 0 2\n",
+            },
+            Case {
+                n: 3,
+                lines: &PAIR,
+                trials: &PAIRS,
+                aim: b'G',
+                sheet: b"GREATEST 3\n0 3\n1 3\nNEAR 0\nFAR 0 2\nTRIAL 0 3\n",
+            },
+            Case {
+                n: 3,
+                lines: &PAIR,
+                trials: &PAIRS,
+                aim: b'M',
+                sheet: b"LEAST 0\n0 0\n1 0\nNEAR 0\nFAR 0 2\nTRIAL 0 0\n",
+            },
             Case {
                 n: 4,
                 lines: &FOUR,
@@ -123,9 +269,27 @@ mod tests {
                 aim: b'M',
                 sheet: b"LEAST 2\n0 2\n1 2\n2 2\n3 0\nNEAR 0\nFAR 0\nTRIAL 1 2\nTRIAL 0 2\nTRIAL 0 1\n",
             },
-            Case { n: 3, lines: &SHORT, trials: &SHORTS, aim: b'G', sheet: b"IMPOSSIBLE 1\nHURDLE 0 1\nTRIAL 0 3\nTRIAL 0 NONE\n" },
-            Case { n: 3, lines: &SHORT, trials: &SHORTS, aim: b'M', sheet: b"IMPOSSIBLE 1\nHURDLE 0 1\nTRIAL 0 3\nTRIAL 0 NONE\n" },
-            Case { n: 4, lines: &FOUR, trials: &BAD, aim: b'M', sheet: b"DECLINED 6\n" },
+            Case {
+                n: 3,
+                lines: &SHORT,
+                trials: &SHORTS,
+                aim: b'G',
+                sheet: b"IMPOSSIBLE 1\nHURDLE 0 1\nTRIAL 0 3\nTRIAL 0 NONE\n",
+            },
+            Case {
+                n: 3,
+                lines: &SHORT,
+                trials: &SHORTS,
+                aim: b'M',
+                sheet: b"IMPOSSIBLE 1\nHURDLE 0 1\nTRIAL 0 3\nTRIAL 0 NONE\n",
+            },
+            Case {
+                n: 4,
+                lines: &FOUR,
+                trials: &BAD,
+                aim: b'M',
+                sheet: b"DECLINED 6\n",
+            },
         ];
         for case in &cases {
             let mut file = Vec::new(rt.alloc());
@@ -154,22 +318,86 @@ mod tests {
     #[test]
     fn edges_of_a_line(rt: LibcRuntime) -> Result<(), Fail> {
         let edges = [
-            Edge { n: 0, line: line(0, 1, 0, 1), number: 2 },
-            Edge { n: 1, line: line(0, 1, 0, 1), number: 2 },
-            Edge { n: 2, line: line(0, 1, 0, 1), number: 0 },
-            Edge { n: 250, line: line(0, 249, 0, 1), number: 0 },
-            Edge { n: 251, line: line(0, 249, 0, 1), number: 2 },
-            Edge { n: 255, line: line(0, 249, 0, 1), number: 2 },
-            Edge { n: 250, line: line(0, 250, 0, 1), number: 4 },
-            Edge { n: 250, line: line(250, 1, 0, 1), number: 4 },
-            Edge { n: 4, line: line(2, 2, 0, 1), number: 4 },
-            Edge { n: 4, line: line(1, 1, 0, 1), number: 4 },
-            Edge { n: 4, line: line(2, 0, 0, 1), number: 5 },
-            Edge { n: 4, line: line(1, 2, 0, 1), number: 5 },
-            Edge { n: 4, line: line(2, 3, 1, 0), number: 6 },
-            Edge { n: 4, line: line(0, 1, 0, 1_000_000), number: 0 },
-            Edge { n: 4, line: line(0, 1, 0, 1_000_001), number: 6 },
-            Edge { n: 4, line: line(1, 0, 1, 0), number: 5 },
+            Edge {
+                n: 0,
+                line: line(0, 1, 0, 1),
+                number: 2,
+            },
+            Edge {
+                n: 1,
+                line: line(0, 1, 0, 1),
+                number: 2,
+            },
+            Edge {
+                n: 2,
+                line: line(0, 1, 0, 1),
+                number: 0,
+            },
+            Edge {
+                n: 250,
+                line: line(0, 249, 0, 1),
+                number: 0,
+            },
+            Edge {
+                n: 251,
+                line: line(0, 249, 0, 1),
+                number: 2,
+            },
+            Edge {
+                n: 255,
+                line: line(0, 249, 0, 1),
+                number: 2,
+            },
+            Edge {
+                n: 250,
+                line: line(0, 250, 0, 1),
+                number: 4,
+            },
+            Edge {
+                n: 250,
+                line: line(250, 1, 0, 1),
+                number: 4,
+            },
+            Edge {
+                n: 4,
+                line: line(2, 2, 0, 1),
+                number: 4,
+            },
+            Edge {
+                n: 4,
+                line: line(1, 1, 0, 1),
+                number: 4,
+            },
+            Edge {
+                n: 4,
+                line: line(2, 0, 0, 1),
+                number: 5,
+            },
+            Edge {
+                n: 4,
+                line: line(1, 2, 0, 1),
+                number: 5,
+            },
+            Edge {
+                n: 4,
+                line: line(2, 3, 1, 0),
+                number: 6,
+            },
+            Edge {
+                n: 4,
+                line: line(0, 1, 0, 1_000_000),
+                number: 0,
+            },
+            Edge {
+                n: 4,
+                line: line(0, 1, 0, 1_000_001),
+                number: 6,
+            },
+            Edge {
+                n: 4,
+                line: line(1, 0, 1, 0),
+                number: 5,
+            },
         ];
         for edge in &edges {
             let mut file = Vec::new(rt.alloc());
@@ -191,22 +419,70 @@ mod tests {
     #[test]
     fn edges_of_a_file() -> Result<(), Fail> {
         let files = [
-            Broken { file: b"", number: 12 },
-            Broken { file: b"N", number: 12 },
-            Broken { file: b"N\x02", number: 12 },
-            Broken { file: b"N\x02G", number: 0 },
-            Broken { file: b"N\x02M", number: 0 },
-            Broken { file: b"N\x02GG", number: 13 },
-            Broken { file: b"G", number: 11 },
-            Broken { file: b"n\x02G", number: 11 },
-            Broken { file: b"N\x02N\x02G", number: 11 },
-            Broken { file: b"N\x02X", number: 11 },
-            Broken { file: b"N\x02L\x00\x01\x00\x00\x00\x00\x00\x00\x00", number: 12 },
-            Broken { file: b"N\x02L\x00\x01\x00\x00\x00\x00\x00\x00\x00\x01", number: 12 },
-            Broken { file: b"N\x02L\x00\x01\x00\x00\x00\x00\x00\x00\x00\x01G", number: 0 },
-            Broken { file: b"N\x02T\x00\x00\x00\x00\x00\x00\x00\x00\x00\x01G", number: 8 },
-            Broken { file: b"N\x00GX", number: 13 },
-            Broken { file: b"N\x00X", number: 11 },
+            Broken {
+                file: b"",
+                number: 12,
+            },
+            Broken {
+                file: b"N",
+                number: 12,
+            },
+            Broken {
+                file: b"N\x02",
+                number: 12,
+            },
+            Broken {
+                file: b"N\x02G",
+                number: 0,
+            },
+            Broken {
+                file: b"N\x02M",
+                number: 0,
+            },
+            Broken {
+                file: b"N\x02GG",
+                number: 13,
+            },
+            Broken {
+                file: b"G",
+                number: 11,
+            },
+            Broken {
+                file: b"n\x02G",
+                number: 11,
+            },
+            Broken {
+                file: b"N\x02N\x02G",
+                number: 11,
+            },
+            Broken {
+                file: b"N\x02X",
+                number: 11,
+            },
+            Broken {
+                file: b"N\x02L\x00\x01\x00\x00\x00\x00\x00\x00\x00",
+                number: 12,
+            },
+            Broken {
+                file: b"N\x02L\x00\x01\x00\x00\x00\x00\x00\x00\x00\x01",
+                number: 12,
+            },
+            Broken {
+                file: b"N\x02L\x00\x01\x00\x00\x00\x00\x00\x00\x00\x01G",
+                number: 0,
+            },
+            Broken {
+                file: b"N\x02T\x00\x00\x00\x00\x00\x00\x00\x00\x00\x01G",
+                number: 8,
+            },
+            Broken {
+                file: b"N\x00GX",
+                number: 13,
+            },
+            Broken {
+                file: b"N\x00X",
+                number: 11,
+            },
         ];
         for broken in &files {
             check_eq(number_of(broken.file), broken.number)?;
@@ -226,12 +502,42 @@ mod tests {
     #[test]
     fn edges_of_counts(rt: LibcRuntime) -> Result<(), Fail> {
         let crowds = [
-            Crowd { n: 2, lines: 1000, trials: 0, number: 0 },
-            Crowd { n: 2, lines: 1001, trials: 0, number: 3 },
-            Crowd { n: 1, lines: 1001, trials: 0, number: 2 },
-            Crowd { n: 2, lines: 1, trials: 64, number: 0 },
-            Crowd { n: 2, lines: 1, trials: 65, number: 10 },
-            Crowd { n: 2, lines: 1001, trials: 65, number: 10 },
+            Crowd {
+                n: 2,
+                lines: 1000,
+                trials: 0,
+                number: 0,
+            },
+            Crowd {
+                n: 2,
+                lines: 1001,
+                trials: 0,
+                number: 3,
+            },
+            Crowd {
+                n: 1,
+                lines: 1001,
+                trials: 0,
+                number: 2,
+            },
+            Crowd {
+                n: 2,
+                lines: 1,
+                trials: 64,
+                number: 0,
+            },
+            Crowd {
+                n: 2,
+                lines: 1,
+                trials: 65,
+                number: 10,
+            },
+            Crowd {
+                n: 2,
+                lines: 1001,
+                trials: 65,
+                number: 10,
+            },
         ];
         for crowd in &crowds {
             let mut file = Vec::new(rt.alloc());

@@ -37,4 +37,7 @@ pub struct Tally {
 }
 
 /// Nothing done yet.
-pub const NO_TALLY: Tally = Tally { relabels: 0, discharges: 0 };
+pub const NO_TALLY: Tally = Tally {
+    relabels: 0,
+    discharges: 0,
+};

@@ -1,11 +1,11 @@
 //! What a planner holds.
 ghost use Prim.Native.Nat.{_≤_};
+use super::answer::Tally;
 use chooser::Chooser;
 use plant::HeldLine;
 use plant::HeldPlant;
 use preflow::HELD_LINES;
 use preflow::Rows;
-use super::answer::Tally;
 
 pub mod calls;
 pub mod readings;

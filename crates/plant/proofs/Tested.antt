@@ -119,5 +119,6 @@ front-fine n count xs ys e few fine = subst (λ (zs : List Line). Front n zs) (s
   where
     short : length (take count xs) ≤ count
     short = omega (arith, length-take count xs)
+
     at : (k : ℕ) → k < length (take count xs) → Fine n (getD (take count xs) k no-line)
     at k j = subst (λ (l : Line). Fine n l) (sym (getD-take count xs k no-line (omega (arith, short)))) (fine k (omega (arith, short)))

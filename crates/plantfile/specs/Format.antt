@@ -72,4 +72,3 @@ parse bs =
     cond (eqb (length bs) 0) (Err FileEnds)
     (cond (eqb (getD bs 0 0) 78) (cond (ltb (length bs) 2) (Err FileEnds) (after (length (drop 2 bs) + 1) (getD bs 1 0) [] [] (drop 2 bs)))
     (Err NoCommand))
-

@@ -2,13 +2,13 @@
 ghost use mathlib.Core.Path.{_≡_};
 ghost use Rattle.plantfile.specs.Format.{first, lineOf, trialOf};
 use plant::Aim;
-use plant::Decline;
-use plant::Line;
-use ring::Queue;
 use plant::AimDebug;
 use plant::AimPartialEq;
+use plant::Decline;
+use plant::Line;
 use plant::LineDebug;
 use plant::LinePartialEq;
+use ring::Queue;
 
 /// The most trials of a file.
 pub const MAX_TRIALS: usize = 64;
@@ -25,7 +25,11 @@ pub struct Trial {
 }
 
 /// Fills a place that holds no trial yet.
-pub const BLANK_TRIAL: Trial = Trial { line: 0, low: 0, high: 0 };
+pub const BLANK_TRIAL: Trial = Trial {
+    line: 0,
+    low: 0,
+    high: 0,
+};
 
 /// What a file says beside its lines and trials, and how many lines it has.
 #[derive(Clone, Copy, PartialEq, Eq, Debug)]
@@ -51,7 +55,12 @@ fn read_line(operands: &[u8]) -> Result<Command, Decline>
         [from, to, l3, l2, l1, l0, h3, h2, h1, h0, ..] => {
             let low = u32::from_be_bytes([*l3, *l2, *l1, *l0]);
             let high = u32::from_be_bytes([*h3, *h2, *h1, *h0]);
-            Ok(Command::Draw(Line { from: *from, to: *to, low, high }))
+            Ok(Command::Draw(Line {
+                from: *from,
+                to: *to,
+                low,
+                high,
+            }))
         }
         _ => Err(Decline::FileEnds),
     }
@@ -98,7 +107,12 @@ fn keep_line(lines: &mut [Line], at: usize, line: Line) {
 }
 
 // What follows N and its operand.
-fn read_body(n: u8, body: &[u8], lines: &mut [Line], waiting: &mut Queue<Trial>) -> Result<Heading, Decline> {
+fn read_body(
+    n: u8,
+    body: &[u8],
+    lines: &mut [Line],
+    waiting: &mut Queue<Trial>,
+) -> Result<Heading, Decline> {
     let mut count = 0;
     let mut rest = body;
     loop {
@@ -110,7 +124,11 @@ fn read_body(n: u8, body: &[u8], lines: &mut [Line], waiting: &mut Queue<Trial>)
             Command::Try(trial) => {
                 let _ = waiting.put(trial);
             }
-            Command::End(aim) => return Ok(Heading { n, lines: count, aim }),
+            Command::End(aim) => return Ok(Heading {
+                n,
+                lines: count,
+                aim,
+            }),
         }
         rest = &rest[COMMAND_LEN..];
     }
@@ -118,7 +136,11 @@ fn read_body(n: u8, body: &[u8], lines: &mut [Line], waiting: &mut Queue<Trial>)
 
 /// Reads a file from left to right up to its first fault. Lines go to `lines`, those past its end are counted and not
 /// kept; trials wait in `waiting`.
-pub fn read_file(file: &[u8], lines: &mut [Line], waiting: &mut Queue<Trial>) -> Result<Heading, Decline> {
+pub fn read_file(
+    file: &[u8],
+    lines: &mut [Line],
+    waiting: &mut Queue<Trial>,
+) -> Result<Heading, Decline> {
     match file {
         [b'N', n, rest @ ..] => read_body(*n, rest, lines, waiting),
         [] | [b'N'] => Err(Decline::FileEnds),

@@ -1,6 +1,4 @@
 //! How a stage begins.
-use chooser::Chooser;
-use plant::HeldLine;
 use super::push::push;
 use super::rows::BLANK_ROW;
 use super::rows::ROWS;
@@ -8,6 +6,8 @@ use super::rows::Rows;
 use super::rows::Stage;
 use super::rows::relabel;
 use super::rows::send;
+use chooser::Chooser;
+use plant::HeldLine;
 
 // Label N at the start and 0 elsewhere; the excess of each junction is that of the flow.
 fn first_rows(stage: Stage, lines: &[HeldLine], rows: &mut Rows) {
@@ -36,7 +36,12 @@ fn put_active<C: Chooser>(stage: Stage, rows: &Rows, chooser: &mut C) {
 }
 
 /// Begins a stage over the flow that the lines carry.
-pub fn begin_stage<C: Chooser>(stage: Stage, lines: &mut [HeldLine], rows: &mut Rows, chooser: &mut C) {
+pub fn begin_stage<C: Chooser>(
+    stage: Stage,
+    lines: &mut [HeldLine],
+    rows: &mut Rows,
+    chooser: &mut C,
+) {
     first_rows(stage, lines, rows);
     push_all(stage, lines, rows);
     chooser.clear();

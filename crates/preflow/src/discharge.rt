@@ -1,11 +1,11 @@
 //! A discharge: one junction sends its excess on, and is relabelled where some is left.
 ghost use Prim.Native.Nat.{_<_, _≤_};
-use chooser::Chooser;
-use plant::HeldLine;
 use super::push::push_due;
 use super::rows::Rows;
 use super::rows::Stage;
 use super::rows::relabel;
+use chooser::Chooser;
+use plant::HeldLine;
 
 // The pushes of a discharge of `v`, over its lines in rising number, until its excess is zero.
 fn scan<C: Chooser>(stage: Stage, lines: &mut [HeldLine], rows: &mut Rows, chooser: &mut C, v: u8)
@@ -28,7 +28,11 @@ fn lower(held: &HeldLine, rows: &Rows, v: u8, best: u32) -> u32
 {
     let w = held.other_end(v);
     let label = rows[w as usize].label;
-    if held.residual(v) > 0 && label < best { label } else { best }
+    if held.residual(v) > 0 && label < best {
+        label
+    } else {
+        best
+    }
 }
 
 // The smallest of `most` and the labels that residuals lead to from `v`.
@@ -44,7 +48,13 @@ fn lowest(lines: &[HeldLine], rows: &Rows, v: u8, most: u32) -> u32
 }
 
 /// Discharges `v`; answers whether it was relabelled.
-pub fn discharge_junction<C: Chooser>(stage: Stage, lines: &mut [HeldLine], rows: &mut Rows, chooser: &mut C, v: u8) -> bool
+pub fn discharge_junction<C: Chooser>(
+    stage: Stage,
+    lines: &mut [HeldLine],
+    rows: &mut Rows,
+    chooser: &mut C,
+    v: u8,
+) -> bool
     requires { ⌜ v < 252 ⌝ }
 {
     scan(stage, lines, rows, chooser, v);

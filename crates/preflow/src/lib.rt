@@ -11,9 +11,6 @@ pub use network::HELD_LINES;
 pub use network::is_filled;
 pub use network::open_first;
 pub use network::open_second;
-
-
-
 pub use rows::BLANK_ROW;
 pub use rows::ROWS;
 pub use rows::Rows;

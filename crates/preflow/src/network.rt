@@ -17,7 +17,15 @@ pub const HELD_LINES: usize = 1252;
 fn shifted(line: Line) -> HeldLine
     requires { ⌜ Fine 250 line ⌝ }
 {
-    HeldLine { line: Line { from: line.from, to: line.to, low: 0, high: line.high - line.low }, flow: 0 }
+    HeldLine {
+        line: Line {
+            from: line.from,
+            to: line.to,
+            low: 0,
+            high: line.high - line.low,
+        },
+        flow: 0,
+    }
 }
 
 // The plant's lines in stage one.
@@ -33,7 +41,15 @@ fn shift_lines(lines: &[Line], held: &mut [HeldLine; HELD_LINES])
 fn added(from: u8, to: u8, high: u32) -> HeldLine
     requires { ⌜ from < 252 ⌝ ∗ ⌜ to < 252 ⌝ ∗ ⌜ (from ≡ to → ⊥) ⌝ }
 {
-    HeldLine { line: Line { from, to, low: 0, high }, flow: 0 }
+    HeldLine {
+        line: Line {
+            from,
+            to,
+            low: 0,
+            high,
+        },
+        flow: 0,
+    }
 }
 
 // The line that stage one adds for a junction: from n for a surplus above zero, to n + 1 for one below zero.
@@ -84,7 +100,10 @@ pub fn open_first(plant: &HeldPlant, held: &mut [HeldLine; HELD_LINES]) -> usize
 fn settled(line: Line, found: u32) -> HeldLine
     requires { ⌜ Fine 250 line ⌝ }
 {
-    HeldLine { line, flow: line.low + found.min(line.high - line.low) }
+    HeldLine {
+        line,
+        flow: line.low + found.min(line.high - line.low),
+    }
 }
 
 // The plant's lines in stage two.

@@ -3,10 +3,10 @@ ghost use lib.IntN.{pos};
 ghost use Prim.Native.Nat.{_<_, _≤_};
 ghost use Rattle.plant.specs.Held.{arc, residual};
 ghost use Rattle.std.specs.Slices.{found};
-use plant::HeldLine;
 use super::rows::Rows;
 use super::rows::Stage;
 use super::rows::send;
+use plant::HeldLine;
 
 // The smaller of an excess and a residual.
 fn smaller(excess: i64, residual: u32) -> u32
@@ -55,5 +55,9 @@ pub fn push_due(stage: Stage, held: &mut HeldLine, rows: &mut Rows, v: u8) -> Op
     let w = held.other_end(v);
     let was_active = stage.is_active(rows, w);
     push(held, rows, v, amount);
-    if !was_active && stage.is_active(rows, w) { Some(w) } else { None }
+    if !was_active && stage.is_active(rows, w) {
+        Some(w)
+    } else {
+        None
+    }
 }

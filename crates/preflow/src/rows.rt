@@ -10,7 +10,10 @@ pub const ROWS: usize = 252;
 pub type Rows = [Row; ROWS];
 
 /// No excess, label 0.
-pub const BLANK_ROW: Row = Row { excess: 0, label: 0 };
+pub const BLANK_ROW: Row = Row {
+    excess: 0,
+    label: 0,
+};
 
 /// Where a stage starts, where it is to lead, and how many junctions it has.
 #[derive(Clone, Copy)]
@@ -27,7 +30,11 @@ impl Stage {
     pub fn first(n: u8) -> Stage
         requires { ⌜ n ≤ 250 ⌝ }
     {
-        Stage { start: n, goal: n + 1, junctions: n + 2 }
+        Stage {
+            start: n,
+            goal: n + 1,
+            junctions: n + 2,
+        }
     }
 
     /// Stage two: from the header to the tank for the greatest, the other way round for the least.
@@ -35,8 +42,16 @@ impl Stage {
         requires { ⌜ 2 ≤ n ⌝ ∗ ⌜ n ≤ 250 ⌝ }
     {
         match aim {
-            Aim::Greatest => Stage { start: 0, goal: 1, junctions: n },
-            Aim::Least => Stage { start: 1, goal: 0, junctions: n },
+            Aim::Greatest => Stage {
+                start: 0,
+                goal: 1,
+                junctions: n,
+            },
+            Aim::Least => Stage {
+                start: 1,
+                goal: 0,
+                junctions: n,
+            },
         }
     }
 

@@ -4,9 +4,9 @@ ghost use mathlib.Core.Bool.{Bool, false, true};
 ghost use mathlib.Core.List.{[]};
 ghost use mathlib.Core.Path.{_≡_};
 ghost use Prim.Native.Nat.{ℕ};
+use super::graph::Graph;
 use plant::HeldLine;
 use plant::Line;
-use super::graph::Graph;
 
 /// For each junction a row of marks, one for each junction that it leads straight to.
 #[derive(Drop)]
@@ -22,7 +22,9 @@ fn mark(row: &mut [bool; 256], w: u8) {
 impl Adjacency {
     /// No junction leads to another.
     pub fn new() -> Adjacency {
-        Adjacency { rows: [[false; 256]; 256] }
+        Adjacency {
+            rows: [[false; 256]; 256],
+        }
     }
 
     /// From now on `v` leads straight to `w`.
@@ -41,7 +43,12 @@ impl Adjacency {
 
     // The residuals of one line, in either direction.
     fn join_residuals(&mut self, held: &HeldLine) {
-        let Line { from, to, low: _, high: _ } = held.line;
+        let Line {
+            from,
+            to,
+            low: _,
+            high: _,
+        } = held.line;
         if held.residual(from) > 0 {
             self.join(from, to);
         }

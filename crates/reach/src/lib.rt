@@ -2,8 +2,8 @@
 mod adjacency;
 mod dry;
 mod graph;
-mod walk;
 mod set;
+mod walk;
 
 pub use adjacency::Adjacency;
 pub use adjacency::AdjacencyGraph;
@@ -11,5 +11,5 @@ pub use dry::dry_junctions;
 pub use graph::Graph;
 pub use graph::Reversed;
 pub use graph::ReversedGraph;
-pub use walk::search;
 pub use set::JunctionSet;
+pub use walk::search;

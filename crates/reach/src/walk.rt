@@ -4,9 +4,9 @@ ghost use mathlib.Core.Bool.{Bool, false, true};
 ghost use mathlib.Core.Path.{_≡_};
 ghost use Prim.Native.Nat.{ℕ, _<_, _≤_};
 ghost use Rattle.reach.specs.Marking.{Marks, Searched};
+use super::graph::Graph;
 use plant::Decline;
 use ring::Queue;
-use super::graph::Graph;
 
 // Takes every mark away.
 fn clear(marks: &mut [bool])
@@ -38,7 +38,13 @@ fn search_from<G: Graph>(graph: &G, n: u8, from: u8, marks: &mut [bool], places:
 
 /// Marks just the junctions below `n` that the graph reaches from `from` over junctions below `n`; declines marks or
 /// places fewer than `n`, and then changes nothing.
-pub fn search<G: Graph>(graph: &G, n: u8, from: u8, marks: &mut [bool], places: &mut [u8]) -> Result<(), Decline>
+pub fn search<G: Graph>(
+    graph: &G,
+    n: u8,
+    from: u8,
+    marks: &mut [bool],
+    places: &mut [u8],
+) -> Result<(), Decline>
     ensures { λ r. ⌜ Searched (edge (now (graph .entry))) n from (now (marks .entry)) (length (now (places .entry))) r (now (marks .exit)) ⌝ }
 {
     if marks.len() < n as usize || places.len() < n as usize {

@@ -5,8 +5,16 @@ ghost use Prim.Native.Nat.{ℕ, _^_, _<_, _≤_};
 ghost use Rattle.sheet_text.specs.Text.{nothing, Sized};
 ghost use Rattle.std.specs.declared.option.Option.the-variants.{Some};
 ghost use Rattle.std.specs.Vec.{made};
+use super::text::NOTHING_TRIED;
+use super::text::Tried;
+use super::text::put_declined;
+use super::text::put_flow_sheet;
+use super::text::put_hurdle_sheet;
 use chooser::Fifo;
 use chooser::FifoChooser;
+use planner::Outcome;
+use planner::Planner;
+use planner::Side;
 use plant::BLANK_LINE;
 use plant::Decline;
 use plant::Line;
@@ -14,9 +22,6 @@ use plant::MAX_LIMIT;
 use plant::MAX_LINES;
 use plant::test_list;
 use plant::test_trial;
-use planner::Outcome;
-use planner::Planner;
-use planner::Side;
 use plantfile::BLANK_TRIAL;
 use plantfile::Heading;
 use plantfile::MAX_TRIALS;
@@ -24,11 +29,6 @@ use plantfile::Trial;
 use plantfile::read_file;
 use reach::JunctionSet;
 use ring::Queue;
-use super::text::NOTHING_TRIED;
-use super::text::Tried;
-use super::text::put_declined;
-use super::text::put_flow_sheet;
-use super::text::put_hurdle_sheet;
 
 /// A buffer of this length has room for every sheet.
 pub const SHEET_LEN: usize = 16_384;
@@ -50,7 +50,11 @@ fn test_trials(count: usize, waiting: &Queue<Trial>) -> Result<(), Decline> {
 }
 
 // Reads a file, and tests its list and then its trials.
-fn read_checked(file: &[u8], lines: &mut [Line; MAX_LINES], waiting: &mut Queue<Trial>) -> Result<Heading, Decline>
+fn read_checked(
+    file: &[u8],
+    lines: &mut [Line; MAX_LINES],
+    waiting: &mut Queue<Trial>,
+) -> Result<Heading, Decline>
     ensures { λ r. ⌜ made r (λ h. (h .lines ≤ 1000) × (h .n ≤ 250)) ⌝ }
 {
     let heading = read_file(file, lines, waiting)?;
@@ -120,14 +124,29 @@ fn read_cut(planner: &Planner<Fifo>, side: Side) -> Result<[bool; 256], Decline>
 }
 
 // Tries one trial.
-fn try_one(planner: &mut Planner<Fifo>, heading: &Heading, lines: &mut [Line], trial: Trial) -> Result<Tried, Decline>
+fn try_one(
+    planner: &mut Planner<Fifo>,
+    heading: &Heading,
+    lines: &mut [Line],
+    trial: Trial,
+) -> Result<Tried, Decline>
     ensures { λ r. ⌜ made r (λ t. (t .line < 2 ^ 16) × ((x : ℕ) → t .total ≡ Some x → x < 2 ^ 32)) ⌝ }
 {
-    let total = match planner.trial(heading.n, lines, heading.aim.number(), trial.line, trial.low, trial.high)? {
+    let total = match planner.trial(
+        heading.n,
+        lines,
+        heading.aim.number(),
+        trial.line,
+        trial.low,
+        trial.high,
+    )? {
         Outcome::Flow => Some(shown(planner.total()?)),
         _ => None,
     };
-    Ok(Tried { line: trial.line, total })
+    Ok(Tried {
+        line: trial.line,
+        total,
+    })
 }
 
 // Tries the trials that wait, first to last; answers how many.
@@ -172,7 +191,15 @@ fn list_flow(
     let far = read_cut(planner, Side::Far)?;
     let mut tried = [NOTHING_TRIED; MAX_TRIALS];
     let count = try_all(planner, heading, lines, waiting, &mut tried)?;
-    Ok(put_flow_sheet(heading.aim, total, flows, &near[0..n], &far[0..n], &tried[0..count], out))
+    Ok(put_flow_sheet(
+        heading.aim,
+        total,
+        flows,
+        &near[0..n],
+        &far[0..n],
+        &tried[0..count],
+        out,
+    ))
 }
 
 // The listing of a plant that is impossible.

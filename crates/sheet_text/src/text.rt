@@ -20,7 +20,10 @@ pub struct Tried {
 }
 
 /// Fills a place that holds no trial yet.
-pub const NOTHING_TRIED: Tried = Tried { line: 0, total: None };
+pub const NOTHING_TRIED: Tried = Tried {
+    line: 0,
+    total: None,
+};
 
 // Bytes into the buffer from `at` on; answers where they end.
 fn put(out: &mut [u8], at: usize, bytes: &[u8]) -> usize

@@ -1,4 +1,8 @@
 //! Start and work.
+use super::super::answer::NO_TALLY;
+use super::super::answer::Outcome;
+use super::Planner;
+use super::State;
 use chooser::Chooser;
 use plant::BLANK_HELD;
 use plant::Decline;
@@ -7,10 +11,6 @@ use plant::Line;
 use preflow::BLANK_ROW;
 use preflow::HELD_LINES;
 use preflow::ROWS;
-use super::Planner;
-use super::State;
-use super::super::answer::NO_TALLY;
-use super::super::answer::Outcome;
 
 /// The most that one work may ask for.
 pub const MAX_WORK: u32 = 60_000;

@@ -1,6 +1,10 @@
 //! What can be read off a settled planner.
 ghost use lib.ListN.{length};
 ghost use Prim.Native.Nat.{_≤_};
+use super::super::answer::Side;
+use super::super::answer::Tally;
+use super::Planner;
+use super::State;
 use chooser::Chooser;
 use plant::Aim;
 use plant::Decline;
@@ -18,10 +22,6 @@ use reach::JunctionSet;
 use reach::Reversed;
 use reach::ReversedGraph;
 use reach::search;
-use super::Planner;
-use super::State;
-use super::super::answer::Side;
-use super::super::answer::Tally;
 
 // The junctions below `n` that the graph reaches from `from`.
 fn reached<G: Graph>(graph: &G, n: u8, from: u8) -> Marks {
@@ -128,7 +128,10 @@ impl<C: Chooser> Planner<C> {
         let marks = self.cut_marks(side);
         let set = JunctionSet::from_marks(&marks);
         put_set(&set, out)?;
-        Ok((set.len(), bound(self.plant.aim(), self.plant.lines(), &marks)))
+        Ok((
+            set.len(),
+            bound(self.plant.aim(), self.plant.lines(), &marks),
+        ))
     }
 
     /// The numbers of the lines that cross the near or the far cut forward, rising, into the front of `out`; answers

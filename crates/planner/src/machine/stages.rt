@@ -1,5 +1,10 @@
 //! The two stages of a question.
 ghost use Prim.Native.Nat.{_≤_};
+use super::super::answer::NO_TALLY;
+use super::super::answer::Outcome;
+use super::super::answer::Tally;
+use super::Planner;
+use super::State;
 use chooser::Chooser;
 use preflow::Stage;
 use preflow::any_active;
@@ -8,11 +13,6 @@ use preflow::discharge_junction;
 use preflow::is_filled;
 use preflow::open_first;
 use preflow::open_second;
-use super::Planner;
-use super::State;
-use super::super::answer::NO_TALLY;
-use super::super::answer::Outcome;
-use super::super::answer::Tally;
 
 // One discharge more.
 fn count_one(tally: &mut Tally, relabelled: bool) {
@@ -36,7 +36,12 @@ impl<C: Chooser> Planner<C> {
     fn begin(&mut self) {
         let stage = self.stage();
         let count = self.count;
-        begin_stage(stage, &mut self.lines[0..count], &mut self.rows, &mut self.chooser);
+        begin_stage(
+            stage,
+            &mut self.lines[0..count],
+            &mut self.rows,
+            &mut self.chooser,
+        );
     }
 
     // Opens stage one on the plant.
@@ -62,7 +67,13 @@ impl<C: Chooser> Planner<C> {
         let Some(v) = self.chooser.take() else {
             return false;
         };
-        let relabelled = discharge_junction(stage, &mut self.lines[0..count], &mut self.rows, &mut self.chooser, v);
+        let relabelled = discharge_junction(
+            stage,
+            &mut self.lines[0..count],
+            &mut self.rows,
+            &mut self.chooser,
+            v,
+        );
         match self.state {
             State::StageOne => count_one(&mut self.one, relabelled),
             _ => count_one(&mut self.two, relabelled),

@@ -3,13 +3,13 @@ ghost use lib.ListN.{length};
 ghost use mathlib.Core.Path.{_≡_};
 ghost use Prim.Native.Nat.{_<_};
 ghost use Rattle.planner.specs.Limits.{limited};
+use super::super::answer::Outcome;
+use super::Planner;
 use chooser::Chooser;
 use plant::Decline;
 use plant::Line;
 use plant::test_plant;
 use plant::test_trial;
-use super::Planner;
-use super::super::answer::Outcome;
 
 // Puts limits into one line of a list.
 fn put_limits(lines: &mut [Line], at: usize, low: u32, high: u32)
@@ -17,7 +17,12 @@ fn put_limits(lines: &mut [Line], at: usize, low: u32, high: u32)
     ensures { λ _. ⌜ now (lines .exit) ≡ limited (now (lines .entry)) at low high ⌝ }
 {
     let own = lines[at];
-    lines[at] = Line { from: own.from, to: own.to, low, high };
+    lines[at] = Line {
+        from: own.from,
+        to: own.to,
+        low,
+        high,
+    };
 }
 
 // A list with other limits on one line, which has its own back when the guard goes.
@@ -44,20 +49,38 @@ impl Drop for Restore<'_> {
         let low = self.low;
         let high = self.high;
         put_limits(self.lines, at, low, high);
-        let Restore { lines: _, at: _, low: _, high: _ } = self;
+        let Restore {
+            lines: _,
+            at: _,
+            low: _,
+            high: _,
+        } = self;
     }
 }
 
 impl<C: Chooser> Planner<C> {
     /// Settles the question of a list with other limits on one line; the list is afterwards what it was.
-    pub fn trial(&mut self, n: u8, lines: &mut [Line], aim: u8, line: u16, low: u32, high: u32) -> Result<Outcome, Decline>
+    pub fn trial(
+        &mut self,
+        n: u8,
+        lines: &mut [Line],
+        aim: u8,
+        line: u16,
+        low: u32,
+        high: u32,
+    ) -> Result<Outcome, Decline>
         ensures back { λ _. ⌜ now (lines .exit) ≡ now (lines .entry) ⌝ }
     {
         test_plant(n, lines, aim)?;
         test_trial(lines.len(), line, low, high)?;
         let at = line as usize;
         let own = lines[at];
-        let guard = Restore { lines, at, low: own.low, high: own.high };
+        let guard = Restore {
+            lines,
+            at,
+            low: own.low,
+            high: own.high,
+        };
         put_limits(guard.lines, at, low, high);
         guard.start(self, n, aim)?;
         let (outcome, _) = self.run(u32::MAX);

@@ -15,9 +15,11 @@ use Rattle.reach.proofs.walk.search_from.Needs.{then-not-marks-w·then-leads, 
 pub loop-v-holds : need.loop-v-holds
 loop-v-holds g c =
     let none = ap length (c .new-queue .ensures .empty) in
-    let kept = c .put .ensures .kept (omega arith) in
-    (begun _ _ _ _ _ (omega arith) (omega arith) (c .clear .ensures)
-       (kept .1 ∙ ap (λ q. q ++ (c .args .from ∷ [])) (c .new-queue .ensures .empty)), omega arith)
+    let kept = c .put .ensures .kept (omega arith) in (
+      begun _ _ _ _ _ (omega arith) (omega arith) (c .clear .ensures)
+          (kept .1 ∙ ap (λ q. q ++ (c .args .from ∷ [])) (c .new-queue .ensures .empty)),
+      omega arith,
+    )
 
 pub loop-w-holds : need.loop-w-holds
 loop-w-holds g c =
@@ -34,20 +36,22 @@ loop-v-again g c =
 pub loop-w-again : need.loop-w-again
 loop-w-again g c =
     elim (c .if-not-marks-w .came) [
-      then-not-marks-w·then-leads w ↦
-        join-marked (g .G·Graph .edge (c .args .graph .now)) (c .args .n) (c .args .from) (c .loop-w .marks) (c .if-not-marks-w .marks)
-        (c .loop-w .queue) (w .put-then-leads .last .self) (c .if-not-marks-w .queue) (c .in-Some .v) (c .loop-w .w)
-        (c .loop-w .inv .0) (c .loop-w .inv .1) (c .loop-w .inv .2)
-        (c .loop-w-test .taken) (w .if-not-marks-w .taken) (w .if-leads .ensures tt) (w .marks-is) (w .queue-is)
-        (w .put-then-leads .ensures .room) (λ h. w .put-then-leads .ensures .kept h .1)
-    | else-not-marks-w w ↦
-        join-passed (g .G·Graph .edge (c .args .graph .now)) (c .args .n) (c .args .from) (c .loop-w .marks) (c .if-not-marks-w .marks)
-        (c .loop-w .queue) (c .if-not-marks-w .queue) (c .in-Some .v) (c .loop-w .w)
-        (c .loop-w .inv .0) (c .loop-w .inv .1) (c .loop-w .inv .2)
-        (λ h. elim (w .else-not-marks-w .came) [
-            else-not-marks-w·by·then-not-marks-w·else-leads z ↦ absurd (both-ways _ (sym (z .if-leads .ensures tt)) h)
-          | else-not-marks-w·by·else-not-marks-w z ↦ z .if-not-marks-w .left ])
-        (w .marks-is) (w .queue-is) ]
+      | then-not-marks-w·then-leads w ↦
+          join-marked (g .G·Graph .edge (c .args .graph .now)) (c .args .n) (c .args .from) (c .loop-w .marks) (c .if-not-marks-w .marks)
+          (c .loop-w .queue) (w .put-then-leads .last .self) (c .if-not-marks-w .queue) (c .in-Some .v) (c .loop-w .w)
+          (c .loop-w .inv .0) (c .loop-w .inv .1) (c .loop-w .inv .2)
+          (c .loop-w-test .taken) (w .if-not-marks-w .taken) (w .if-leads .ensures tt) (w .marks-is) (w .queue-is)
+          (w .put-then-leads .ensures .room) (λ h. w .put-then-leads .ensures .kept h .1)
+      | else-not-marks-w w ↦
+          join-passed (g .G·Graph .edge (c .args .graph .now)) (c .args .n) (c .args .from) (c .loop-w .marks) (c .if-not-marks-w .marks)
+          (c .loop-w .queue) (c .if-not-marks-w .queue) (c .in-Some .v) (c .loop-w .w)
+          (c .loop-w .inv .0) (c .loop-w .inv .1) (c .loop-w .inv .2)
+          (λ h. elim (w .else-not-marks-w .came) [
+            | else-not-marks-w·by·then-not-marks-w·else-leads z ↦ absurd (both-ways _ (sym (z .if-leads .ensures tt)) h)
+            | else-not-marks-w·by·else-not-marks-w z ↦ z .if-not-marks-w .left
+          ])
+          (w .marks-is) (w .queue-is)
+    ]
 
 pub returns : need.returns
 returns g c = ended _ _ _ _ _ _ (c .loop-v .inv .0) (c .in-rest .ensures tt .took .0)

@@ -16,5 +16,5 @@ put-flow-sheet-requires c κs =
       flows = (search needs, c .in-Continue-read-flows .ensures tt);
       cuts = (front-short _ _ _ (c .pre .1 .0), front-short _ _ _ (c .pre .1 .0));
       trials = (front-short _ _ _ few, front-kept (λ (t : Tried). Sized t) _ nothing _ (m .1));
-      room = search needs
+      room = search needs;
     }

@@ -15,5 +15,5 @@ put-hurdle-sheet-requires c κs =
       shortfall = search needs;
       hurdle = front-short _ _ _ (c .pre .0);
       trials = (front-short _ _ _ few, front-kept (λ (t : Tried). Sized t) _ nothing _ (m .1));
-      room = search needs
+      room = search needs;
     }
