@@ -4,3 +4,4 @@ pub mod Tests
 pub mod Fine
 pub mod Held
 pub mod Shares
+pub mod Example

@@ -6,6 +6,7 @@ mod held_plant;
 mod line;
 mod list;
 mod sums;
+mod worked;
 
 pub use aim::Aim;
 pub use aim::AimDebug;
@@ -39,3 +40,4 @@ pub use sums::shortfall;
 pub use sums::sum_of_highs;
 pub use sums::surplus_at;
 pub use sums::total_of;
+pub use worked::worked_plant;
