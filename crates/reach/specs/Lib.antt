@@ -1,1 +1,4 @@
 pub mod Marking
+pub mod Drawn
+pub mod Sets
+pub mod Drying

@@ -1,4 +1,11 @@
 //! The dry junctions of a list: those but the header that no chain of its lines reaches from it.
+ghost use lib.Dec.{ltb};
+ghost use lib.ListN.{getD, length};
+ghost use mathlib.Core.Bool.{Bool, _&&_, false, not};
+ghost use mathlib.Core.Path.{_≡_};
+ghost use Prim.Native.Nat.{ℕ};
+ghost use Rattle.plant.specs.Held.{marked};
+ghost use Rattle.reach.specs.Drying.{Dried, test-dry};
 use super::adjacency::Adjacency;
 use super::adjacency::AdjacencyGraph;
 use super::set::JunctionSet;
@@ -7,33 +14,34 @@ use plant::Decline;
 use plant::Line;
 use plant::test_list;
 
-// The junctions below `n` that are not marked.
-fn unmarked(n: u8, marks: &[bool; 256]) -> JunctionSet {
-    let mut set = JunctionSet::new();
+// Just the junctions below `n` that are not marked.
+fn unmarked(n: u8, marks: &[bool; 256]) -> [bool; 256]
+    ensures { λ r. ⌜ ((v : ℕ) → marked r v ≡ (ltb v n && not (marked (now (marks .entry)) v))) ⌝ }
+{
+    let mut rest = [false; 256];
     for v in 0..n {
-        if !marks[v as usize] {
-            set.insert(v);
-        }
+        rest[v as usize] = !marks[v as usize];
     }
-    set
+    rest
 }
 
 /// Puts the dry junctions of a list into the first 32 bytes of `out` and answers their number; `places` is memory for
-/// the search. Declines a list that fails a test, then fewer than `n` places or 32 bytes; then nothing changes but, on
-/// acceptance, what the places hold.
+/// the search. Declines a list that fails a test, then fewer than `n` places or 32 bytes, and then changes nothing.
 pub fn dry_junctions(
     n: u8,
     lines: &[Line],
     places: &mut [u8],
     out: &mut [u8],
-) -> Result<u16, Decline> {
+) -> Result<u16, Decline>
+    ensures { λ r. ⌜ Dried n (now (lines .entry)) (record { places = now (places .entry); bytes = now (out .entry) }) (record { places = now (places .exit); bytes = now (out .exit) }) r (test-dry n (now (lines .entry)) (length (now (places .entry))) (length (now (out .entry)))) ⌝ }
+{
     test_list(n, lines)?;
     if places.len() < n as usize || out.len() < 32 {
         return Err(Decline::BufferLength);
     }
     let mut marks = [false; 256];
     search(&Adjacency::drawn(lines), n, 0, &mut marks, places)?;
-    let dry = unmarked(n, &marks);
+    let dry = JunctionSet::from_marks(&unmarked(n, &marks));
     out[0..32].copy_from_slice(&dry.bytes);
     Ok(dry.len())
 }
