@@ -1,4 +1,4 @@
--- What a search marks.
+-- What a walk over a graph marks.
 use lib.Dec.{ltb}
 use lib.ListN.{getD, length}
 use mathlib.Core.Bool.{Bool, cond, false, true, _||_}
@@ -19,7 +19,7 @@ pub data Reaches (edge : ℕ → ℕ → Bool) (n from : ℕ) : ℕ → Type 0 w
 abbrev pub Marks : (ℕ → ℕ → Bool) → ℕ → ℕ → List Bool → Type 0
 Marks edge n from marks = (w : ℕ) → w < n → (getD marks w false ≡ true → Reaches edge n from w) × (Reaches edge n from w → getD marks w false ≡ true)
 
--- the answer of a search: the marks, or a decline that changes nothing where marks or places are fewer than n
+-- the answer of a walk: the marks, or a decline that changes nothing where marks or places are fewer than n
 abbrev pub Searched : (ℕ → ℕ → Bool) → ℕ → ℕ → List Bool → ℕ → Result (Unit {0}) Decline → List Bool → Type 0
 Searched edge n from before room r after =
     cond (ltb (length before) n || ltb room n) ((r ≡ Err BufferLength) × (after ≡ before)) ((r ≡ Ok tt) × Marks edge n from after)

@@ -9,7 +9,7 @@ ghost use Rattle.reach.specs.Drying.{Dried, test-dry};
 use super::adjacency::Adjacency;
 use super::adjacency::AdjacencyGraph;
 use super::set::JunctionSet;
-use super::walk::search;
+use super::walk::mark_reached;
 use plant::Decline;
 use plant::Line;
 use plant::test_list;
@@ -26,7 +26,7 @@ fn unmarked(n: u8, marks: &[bool; 256]) -> [bool; 256]
 }
 
 /// Puts the dry junctions of a list into the first 32 bytes of `out` and answers their number; `places` is memory for
-/// the search. Declines a list that fails a test, then fewer than `n` places or 32 bytes, and then changes nothing.
+/// the walk. Declines a list that fails a test, then fewer than `n` places or 32 bytes, and then changes nothing.
 pub fn dry_junctions(
     n: u8,
     lines: &[Line],
@@ -40,7 +40,7 @@ pub fn dry_junctions(
         return Err(Decline::BufferLength);
     }
     let mut marks = [false; 256];
-    search(&Adjacency::drawn(lines), n, 0, &mut marks, places)?;
+    mark_reached(&Adjacency::drawn(lines), n, 0, &mut marks, places)?;
     let dry = JunctionSet::from_marks(&unmarked(n, &marks));
     out[0..32].copy_from_slice(&dry.bytes);
     Ok(dry.len())

@@ -14,7 +14,7 @@ pub use graph::Reversed;
 pub use graph::ReversedGraph;
 pub use numbers::shorter;
 pub use set::JunctionSet;
-pub use walk::search;
+pub use walk::mark_reached;
 
 #[cfg(test)]
 mod tests {

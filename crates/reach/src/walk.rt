@@ -1,4 +1,4 @@
-//! The search, written once for every graph.
+//! The walk over a graph, written once for every graph.
 ghost use lib.ListN.{getD, length};
 ghost use mathlib.Core.Bool.{Bool, false, true};
 ghost use mathlib.Core.Path.{_≡_};
@@ -18,7 +18,7 @@ fn clear(marks: &mut [bool])
 }
 
 // Marks what the graph reaches from `from`, where there is room.
-fn search_from<G: Graph>(graph: &G, n: u8, from: u8, marks: &mut [bool], places: &mut [u8])
+fn mark_from<G: Graph>(graph: &G, n: u8, from: u8, marks: &mut [bool], places: &mut [u8])
     requires { ⌜ from < n ⌝ ∗ ⌜ n ≤ length (now marks) ⌝ ∗ ⌜ n ≤ length (now places) ⌝ }
     ensures { λ _. ⌜ Marks (edge (now (graph .entry))) n from (now (marks .exit)) ⌝ }
 {
@@ -38,7 +38,7 @@ fn search_from<G: Graph>(graph: &G, n: u8, from: u8, marks: &mut [bool], places:
 
 /// Marks just the junctions below `n` that the graph reaches from `from` over junctions below `n`; declines marks or
 /// places fewer than `n`, and then changes nothing.
-pub fn search<G: Graph>(
+pub fn mark_reached<G: Graph>(
     graph: &G,
     n: u8,
     from: u8,
@@ -51,7 +51,7 @@ pub fn search<G: Graph>(
         return Err(Decline::BufferLength);
     }
     if from < n {
-        search_from(graph, n, from, marks, places);
+        mark_from(graph, n, from, marks, places);
     } else {
         clear(marks);
     }

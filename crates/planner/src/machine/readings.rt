@@ -21,13 +21,13 @@ use reach::Graph;
 use reach::JunctionSet;
 use reach::Reversed;
 use reach::ReversedGraph;
-use reach::search;
+use reach::mark_reached;
 
 // The junctions below `n` that the graph reaches from `from`.
 fn reached<G: Graph>(graph: &G, n: u8, from: u8) -> Marks {
     let mut marks = [false; 256];
     let mut places = [0u8; 256];
-    let _ = search(graph, n, from, &mut marks, &mut places);
+    let _ = mark_reached(graph, n, from, &mut marks, &mut places);
     marks
 }
 

@@ -9,8 +9,8 @@ use Rattle.reach.proofs.Going.{begun, ended, seen, taken}
 use Rattle.reach.proofs.Joined.{join-marked, join-passed}
 use Rattle.std.proofs.shelf.Tests.{both-ways}
 use mathlib.Core.Bool.{true}
-use Rattle.reach.proofs.walk.search_from.Needs as need
-use Rattle.reach.proofs.walk.search_from.Needs.{then-not-marks-w·then-leads, else-not-marks-w, else-not-marks-w·by·then-not-marks-w·else-leads, else-not-marks-w·by·else-not-marks-w}
+use Rattle.reach.proofs.walk.mark_from.Needs as need
+use Rattle.reach.proofs.walk.mark_from.Needs.{then-not-marks-w·then-leads, else-not-marks-w, else-not-marks-w·by·then-not-marks-w·else-leads, else-not-marks-w·by·else-not-marks-w}
 
 pub loop-v-holds : need.loop-v-holds
 loop-v-holds g c =

@@ -7,7 +7,7 @@ use native.Mathlib.Omega.{arith}
 use Prim.Native.Nat.{ℕ, _≤_}
 use Rattle.reach.specs.Marking.{Marks, Reaches, here, on}
 use Rattle.std.proofs.shelf.Tests.{both-ways}
-use Rattle.reach.proofs.walk.search.Needs as need
+use Rattle.reach.proofs.walk.mark_reached.Needs as need
 
 -- a junction that is not below n reaches nothing
 outside : (edge : ℕ → ℕ → Bool) (n from : ℕ) {w : ℕ} → n ≤ from → Reaches edge n from w → ⊥

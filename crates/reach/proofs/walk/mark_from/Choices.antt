@@ -3,7 +3,7 @@ use mathlib.Core.Path.{_≡_}
 use Prim.Native.Nat.{_+_, _≤_}
 use Rattle.ring.specs.Held.{items, room}
 use Rattle.reach.proofs.Going.{Going, free}
-use Rattle.reach.proofs.walk.search_from.Given as given
+use Rattle.reach.proofs.walk.mark_from.Given as given
 
 abbrev pub Inv-loop-w : given.InvT-loop-w
 Inv-loop-w g l =
