@@ -8,7 +8,7 @@ use lib.ListN.{getD, length, length-take, take}
 use lib.Dec.{eqb, ltb, leb}
 use mathlib.Core.Bool.{_||_}
 use borrow.Author.Tests.{ltb-false, leb-false, eqb-false}
-use Rattle.plant.specs.Fine.{Fine}
+use Rattle.plant.specs.Fine.{Fine, Outward}
 use Rattle.plant.specs.Plants.{no-line}
 use Rattle.plant.specs.Tests.{test-lines, test-list, tested, unless, aim-numbered}
 use Rattle.plant.specs.declared.aim.Aim.{Aim}
@@ -40,13 +40,13 @@ pub line-alone : (n : ℕ) (l : Line) (on : Option Decline) → Alone on (test-l
 line-alone n l on = three-tests LineEnds LineDirection LineLimits (bad-ends n l) (bad-direction l) (bad-limits (l .low) (l .high)) on
 
 -- a line that passes, and the tests after it
-split-test : (a b c : Decline) (x y z : Bool) (on : Option Decline) → test a x (test b y (test c z on)) ≡ None → (x ≡ false) × (z ≡ false) × (on ≡ None)
+split-test : (a b c : Decline) (x y z : Bool) (on : Option Decline) → test a x (test b y (test c z on)) ≡ None → (x ≡ false) × (y ≡ false) × (z ≡ false) × (on ≡ None)
 split-test a b c true y z on e = absurd (let z : _≡_ {A = ℕ} 0 1 = cc in omega arith)
 split-test a b c false true z on e = absurd (let z : _≡_ {A = ℕ} 0 1 = cc in omega arith)
 split-test a b c false false true on e = absurd (let z : _≡_ {A = ℕ} 0 1 = cc in omega arith)
-split-test a b c false false false on e = (refl, refl, e)
+split-test a b c false false false on e = (refl, refl, refl, e)
 
-line-splits : (n : ℕ) (l : Line) (on : Option Decline) → test-line n l on ≡ None → (bad-ends n l ≡ false) × (bad-limits (l .low) (l .high) ≡ false) × (on ≡ None)
+line-splits : (n : ℕ) (l : Line) (on : Option Decline) → test-line n l on ≡ None → (bad-ends n l ≡ false) × (bad-direction l ≡ false) × (bad-limits (l .low) (l .high) ≡ false) × (on ≡ None)
 line-splits n l on e = split-test LineEnds LineDirection LineLimits (bad-ends n l) (bad-direction l) (bad-limits (l .low) (l .high)) on e
 
 neither : (x y : Bool) → (x || y) ≡ false → (x ≡ false) × (y ≡ false)
@@ -63,8 +63,14 @@ fine-line n l e h =
 -- each line of a list that passes is fine
 pub fine-lines : (n : ℕ) (ls : List Line) → test-lines n ls None ≡ None → (k : ℕ) → k < length ls → Fine n (getD ls k no-line)
 fine-lines n [] e k h = absurd (omega arith)
-fine-lines n (l ∷ ls) e zero h = let s = line-splits n l (test-lines n ls None) e in fine-line n l (s .0) (s .1)
-fine-lines n (l ∷ ls) e (suc k) h = fine-lines n ls (line-splits n l (test-lines n ls None) e .2) k (omega arith)
+fine-lines n (l ∷ ls) e zero h = let s = line-splits n l (test-lines n ls None) e in fine-line n l (s .0) (s .2)
+fine-lines n (l ∷ ls) e (suc k) h = fine-lines n ls (line-splits n l (test-lines n ls None) e .3) k (omega arith)
+
+-- and none ends at the header
+pub outward-lines : (n : ℕ) (ls : List Line) → test-lines n ls None ≡ None → (k : ℕ) → k < length ls → Outward (getD ls k no-line)
+outward-lines n [] e k h = absurd (omega arith)
+outward-lines n (l ∷ ls) e zero h = eqb-false (l .to) 0 (neither (eqb (l .to) 0) (eqb (l .from) 1) (line-splits n l (test-lines n ls None) e .1) .0)
+outward-lines n (l ∷ ls) e (suc k) h = outward-lines n ls (line-splits n l (test-lines n ls None) e .3) k (omega arith)
 
 unless-none : (o : Option Decline) (x a : Aim) → Ok x ≡ unless o a → o ≡ None
 unless-none None x a e = refl
@@ -85,19 +91,20 @@ pub record Passed (n : ℕ) (ls : List Line) : Type 0 where
   pub least : 2 ≤ n
   pub most : n ≤ 250
   pub fine : (k : ℕ) → k < length ls → Fine n (getD ls k no-line)
+  pub outward : (k : ℕ) → k < length ls → Outward (getD ls k no-line)
 
 pub passed : (n a : ℕ) (ls : List Line) (x : Aim) → Ok x ≡ tested n ls a → Passed n ls
 passed n a ls x e =
     let t = two-tests JunctionCount LineCount (ltb n 2 || ltb 250 n) (ltb 1000 (length ls)) (test-lines n ls None) (aim-none (aim-numbered a) (test-list n ls None) x e) in
     let s = neither (ltb n 2) (ltb 250 n) (t .0) in
-    record { few = ltb-false 1000 (length ls) (t .1); least = ltb-false n 2 (s .0); most = ltb-false 250 n (s .1); fine = fine-lines n ls (t .2) }
+    record { few = ltb-false 1000 (length ls) (t .1); least = ltb-false n 2 (s .0); most = ltb-false 250 n (s .1); fine = fine-lines n ls (t .2); outward = outward-lines n ls (t .2) }
 
 -- and of a copy of it in a longer block
 pub held-fine : (n a : ℕ) (ls xs : List Line) (x : Aim) → Ok x ≡ tested n ls a → take (length ls) xs ≡ ls →
-    (length ls ≤ 1000) × (((2 ≤ n) × (n ≤ 250)) × (((k : ℕ) → k < length ls → Fine n (getD xs k no-line)) × Unit {0}))
+    (length ls ≤ 1000) × (((2 ≤ n) × (n ≤ 250)) × (((k : ℕ) → k < length ls → Fine n (getD xs k no-line)) × (((k : ℕ) → k < length ls → Outward (getD xs k no-line)) × Unit {0})))
 held-fine n a ls xs x e h =
     let p = passed n a ls x e in
-    (p .few, ((p .least, p .most), ((λ k j. subst (λ (l : Line). Fine n l) (sym (at k j)) (p .fine k j)), tt)))
+    (p .few, ((p .least, p .most), ((λ k j. subst (λ (l : Line). Fine n l) (sym (at k j)) (p .fine k j)), ((λ k j. subst (λ (l : Line). Outward l) (sym (at k j)) (p .outward k j)), tt))))
   where
     at : (k : ℕ) → k < length ls → getD xs k no-line ≡ getD ls k no-line
     at k j = sym (getD-take (length ls) xs k no-line j) ∙ ap (λ (ys : List Line). getD ys k no-line) h

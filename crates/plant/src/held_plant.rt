@@ -1,7 +1,7 @@
 //! A plant that passed the tests, with its aim.
 ghost use lib.ListN.{getD};
 ghost use Prim.Native.Nat.{ℕ, _<_, _≤_};
-ghost use Rattle.plant.specs.Fine.{Fine};
+ghost use Rattle.plant.specs.Fine.{Fine, Outward};
 ghost use Rattle.plant.specs.Plants.{no-line};
 use super::aim::Aim;
 use super::line::Line;
@@ -19,4 +19,5 @@ pub struct HeldPlant {
     ghost few: { count ≤ 1000 },
     ghost sized: { (2 ≤ n) × (n ≤ 250) },
     ghost fine: { (k : ℕ) → k < count → Fine n (getD lines k no-line) },
+    ghost outward: { (k : ℕ) → k < count → Outward (getD lines k no-line) },
 }
