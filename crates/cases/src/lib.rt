@@ -4,6 +4,7 @@ mod tests {
     use chooser::Fifo;
     use chooser::FifoChooser;
     use planner::Planner;
+    use plant::Decline;
     use plant::DeclineDebug;
     use plant::Line;
     use plantfile::Trial;
@@ -584,15 +585,28 @@ mod tests {
         check(out[23] == 10 && out[24] == 7)
     }
 
+    // The number of a decline; 0 where the call was accepted.
+    fn declined<T: Drop>(answer: Result<T, Decline>) -> u8 {
+        match answer {
+            Ok(_) => 0,
+            Err(decline) => decline.number(),
+        }
+    }
+
     #[test]
     fn aims_and_works() -> Result<(), Fail> {
         let mut planner = Planner::new(Fifo::new());
-        check(planner.start(2, &[], 0).is_err())?;
-        check(planner.start(2, &[], 3).is_err())?;
-        check(planner.work(1).is_err())?;
-        check(planner.start(2, &[], 2).is_ok())?;
-        check(planner.work(0).is_err())?;
-        check(planner.work(60_001).is_err())?;
-        check(planner.work(60_000).is_ok())
+        check_eq(declined(planner.start(2, &[], 0)), 1)?;
+        check_eq(declined(planner.start(0, &[], 3)), 1)?;
+        check_eq(declined(planner.work(0)), 21)?;
+        check_eq(declined(planner.start(2, &[], 2)), 0)?;
+        check_eq(declined(planner.work(0)), 7)?;
+        check_eq(declined(planner.work(60_001)), 7)?;
+        check_eq(declined(planner.total()), 22)?;
+        check_eq(declined(planner.work(60_000)), 0)?;
+        check_eq(declined(planner.work(60_000)), 21)?;
+        check_eq(declined(planner.total()), 0)?;
+        check_eq(declined(planner.flow(0)), 8)?;
+        check_eq(declined(planner.hurdle(&mut [])), 24)
     }
 }

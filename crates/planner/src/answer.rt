@@ -1,4 +1,6 @@
 //! What the planner's calls take and answer.
+ghost use mathlib.Core.Path.{_≡_};
+ghost use Rattle.planner.specs.Outcomes.{outcome-number};
 
 /// How a question stands after a work or a trial.
 #[derive(Clone, Copy, PartialEq, Eq, Debug)]
@@ -13,7 +15,9 @@ pub enum Outcome {
 
 impl Outcome {
     /// The number of the outcome.
-    pub fn number(&self) -> u8 {
+    pub fn number(&self) -> u8
+        ensures { λ r. ⌜ r ≡ outcome-number (now (self .entry)) ⌝ }
+    {
         match self {
             Outcome::InWork => 0,
             Outcome::Flow => 1,
