@@ -2,9 +2,9 @@
 use mathlib.Core.Path.{_≡_}
 use mathlib.Core.Bool.{cond}
 use mathlib.Core.List.{List, [], _∷_, _++_}
-use Prim.Native.Nat.{ℕ, zero, suc, _+_, _*_, _<_}
+use Prim.Native.Nat.{ℕ, zero, suc, _+_, _-_, _*_, _≤_}
 use lib.Dec.{eqb, ltb}
-use lib.ListN.{length, getD, drop}
+use lib.ListN.{length, getD, take, drop}
 use Rattle.std.specs.declared.result.Result.{Result}
 use Rattle.std.specs.declared.result.Result.the-variants.{Ok, Err}
 use Rattle.plant.specs.declared.aim.Aim.{Aim}
@@ -14,6 +14,7 @@ use Rattle.plantfile.specs.declared.reader.Command.the-variants.{Draw, Try, En
 use Rattle.plant.specs.declared.decline.Decline.{Decline}
 use Rattle.plant.specs.declared.decline.Decline.the-variants.{TrialCount, NoCommand, FileEnds, FileGoesOn}
 use Rattle.plant.specs.declared.line.Line.{Line}
+use Rattle.plantfile.specs.declared.reader.Heading.{Heading}
 use Rattle.plantfile.specs.declared.reader.Trial.{Trial}
 
 -- what a plant file holds: the lines and the trials in the order of the file
@@ -72,3 +73,25 @@ parse bs =
     cond (eqb (length bs) 0) (Err FileEnds)
     (cond (eqb (getD bs 0 0) 78) (cond (ltb (length bs) 2) (Err FileEnds) (after (length (drop 2 bs) + 1) (getD bs 1 0) [] [] (drop 2 bs)))
     (Err NoCommand))
+
+-- places with the items xs from the front on, as many as have a place; the others are as they were
+abbrev pub filled : {X : Type 0} → List X → List X → List X
+filled places xs = take (length places) xs ++ drop (length xs) places
+
+-- a queue of so many places with the items xs behind those that wait, as many as have a place
+abbrev pub queued : {X : Type 0} → ℕ → List X → List X → List X
+queued places waiting xs = waiting ++ take (places - length waiting) xs
+
+-- the heading of c; the lines, from `before` to `after`; the trials, at most 64, behind those that wait
+pub record Kept (c : Content) (h : Heading) (before after : List Line) (places : ℕ) (waiting waits : List Trial) : Type 0 where
+  pub junctions : h .n ≡ c .junctions
+  pub aim : h .aim ≡ c .aim
+  pub count : h .lines ≡ length (c .lines)
+  pub lines : after ≡ filled before (c .lines)
+  pub few : length (c .trials) ≤ 64
+  pub trials : waits ≡ queued places waiting (c .trials)
+
+-- the answer to what the file says
+abbrev pub Told : Result Content Decline → Result Heading Decline → List Line → List Line → ℕ → List Trial → List Trial → Type 0
+Told o (Ok h) before after places waiting waits = (c : Content) × (o ≡ Ok c) × Kept c h before after places waiting waits
+Told o (Err d) before after places waiting waits = o ≡ Err d

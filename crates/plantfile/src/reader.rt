@@ -1,6 +1,10 @@
 //! Reads a plant file: N with the number of junctions, lines and trials in any order, the aim, nothing more.
+ghost use lib.ListN.{length, set, take};
+ghost use mathlib.Core.List.{[], _++_, _∷_};
 ghost use mathlib.Core.Path.{_≡_};
-ghost use Rattle.plantfile.specs.Format.{first, lineOf, trialOf};
+ghost use Prim.Native.Nat.{_+_, _-_};
+ghost use Rattle.plantfile.specs.Format.{after, first, lineOf, parse, Told, trialOf};
+ghost use Rattle.ring.specs.Held.{items, room};
 use plant::Aim;
 use plant::AimDebug;
 use plant::AimPartialEq;
@@ -14,7 +18,7 @@ use ring::Queue;
 pub const MAX_TRIALS: usize = 64;
 
 // A command L or T with its operands.
-const COMMAND_LEN: usize = 11;
+pub const COMMAND_LEN: usize = 11;
 
 /// Other limits for one line.
 #[derive(Clone, Copy, PartialEq, Eq, Debug)]
@@ -100,10 +104,20 @@ fn first_command(rest: &[u8], trials: usize) -> Result<Command, Decline>
 }
 
 // Keeps a line where there is a place for it.
-fn keep_line(lines: &mut [Line], at: usize, line: Line) {
+fn keep_line(lines: &mut [Line], at: usize, line: Line)
+    ensures { λ _. ⌜ now (lines .exit) ≡ set (now (lines .entry)) at line ⌝ }
+{
     if at < lines.len() {
         lines[at] = line;
     }
+}
+
+// Keeps a trial where there is a place for it.
+fn keep_trial(waiting: &mut Queue<Trial>, trial: Trial)
+    ensures room { λ _. ⌜ room (now (waiting .exit)) ≡ room (now (waiting .entry)) ⌝ }
+    ensures kept { λ _. ⌜ items (now (waiting .exit)) ≡ items (now (waiting .entry)) ++ take (room (now (waiting .entry)) - length (items (now (waiting .entry)))) (trial ∷ []) ⌝ }
+{
+    let _ = waiting.put(trial);
 }
 
 // What follows N and its operand.
@@ -112,21 +126,26 @@ fn read_body(
     body: &[u8],
     lines: &mut [Line],
     waiting: &mut Queue<Trial>,
-) -> Result<Heading, Decline> {
-    let mut count = 0;
+) -> Result<Heading, Decline>
+    ensures room { λ _. ⌜ room (now (waiting .exit)) ≡ room (now (waiting .entry)) ⌝ }
+    ensures told { λ r. ⌜ Told (after (length (now (body .entry)) + 1) n [] [] (now (body .entry))) r (now (lines .entry)) (now (lines .exit)) (room (now (waiting .entry))) (items (now (waiting .entry))) (items (now (waiting .exit))) ⌝ }
+{
+    let mut drawn = 0;
+    let mut tried = 0;
     let mut rest = body;
     loop {
-        match first_command(rest, waiting.len())? {
+        match first_command(rest, tried)? {
             Command::Draw(line) => {
-                keep_line(lines, count, line);
-                count += 1;
+                keep_line(lines, drawn, line);
+                drawn += 1;
             }
             Command::Try(trial) => {
-                let _ = waiting.put(trial);
+                keep_trial(waiting, trial);
+                tried += 1;
             }
             Command::End(aim) => return Ok(Heading {
                 n,
-                lines: count,
+                lines: drawn,
                 aim,
             }),
         }
@@ -134,13 +153,20 @@ fn read_body(
     }
 }
 
-/// Reads a file from left to right up to its first fault. Lines go to `lines`, those past its end are counted and not
-/// kept; trials wait in `waiting`.
+/// Reads a file from left to right, up to its first fault.
+///
+/// The lines stand in `lines` from the front on, and the places after them are as they were; lines past the last place
+/// are counted and not kept. The trials wait in `waiting` behind what waited there before; those without a place are
+/// not kept, so that an empty queue of 64 places holds the trials of every file.
+/// After a decline, `lines` and `waiting` may hold what came before the fault.
 pub fn read_file(
     file: &[u8],
     lines: &mut [Line],
     waiting: &mut Queue<Trial>,
-) -> Result<Heading, Decline> {
+) -> Result<Heading, Decline>
+    ensures room { λ _. ⌜ room (now (waiting .exit)) ≡ room (now (waiting .entry)) ⌝ }
+    ensures told { λ r. ⌜ Told (parse (now (file .entry))) r (now (lines .entry)) (now (lines .exit)) (room (now (waiting .entry))) (items (now (waiting .entry))) (items (now (waiting .exit))) ⌝ }
+{
     match file {
         [b'N', n, rest @ ..] => read_body(*n, rest, lines, waiting),
         [] | [b'N'] => Err(Decline::FileEnds),
