@@ -1,0 +1,4 @@
+pub mod Choosers
+pub mod Stages
+pub mod Networks
+pub mod Running

@@ -2,6 +2,8 @@
 ghost use lib.ListN.{getD, length};
 ghost use mathlib.Core.Path.{_≡_};
 ghost use Prim.Native.Nat.{ℕ, _^_, _<_, _≤_};
+ghost use Rattle.chooser.specs.FifoCalls.{holds};
+ghost use Rattle.planner.specs.Standing.{Sound};
 ghost use Rattle.sheet_text.specs.Text.{nothing, Sized};
 ghost use Rattle.std.specs.declared.option.Option.the-variants.{Some};
 ghost use Rattle.std.specs.Vec.{made};
@@ -69,7 +71,10 @@ fn read_checked(
 }
 
 // Works until the question is settled.
-fn settle(planner: &mut Planner<Fifo>) -> Result<Outcome, Decline> {
+fn settle(planner: &mut Planner<Fifo>) -> Result<Outcome, Decline>
+    requires { ⌜ Sound holds (now planner) ⌝ }
+    ensures { λ _. ⌜ Sound holds (now (planner .exit)) ⌝ }
+{
     for _ in 0..WORKS {
         match planner.work(WORK)? {
             (Outcome::InWork, _) => {}
@@ -130,7 +135,9 @@ fn try_one(
     lines: &mut [Line],
     trial: Trial,
 ) -> Result<Tried, Decline>
-    ensures { λ r. ⌜ made r (λ t. (t .line < 2 ^ 16) × ((x : ℕ) → t .total ≡ Some x → x < 2 ^ 32)) ⌝ }
+    requires { ⌜ Sound holds (now planner) ⌝ }
+    ensures sound { λ _. ⌜ Sound holds (now (planner .exit)) ⌝ }
+    ensures sized { λ r. ⌜ made r (λ t. (t .line < 2 ^ 16) × ((x : ℕ) → t .total ≡ Some x → x < 2 ^ 32)) ⌝ }
 {
     let total = match planner.trial(
         heading.n,
@@ -157,6 +164,7 @@ fn try_all(
     waiting: &mut Queue<Trial>,
     tried: &mut [Tried],
 ) -> Result<usize, Decline>
+    requires { ⌜ Sound holds (now planner) ⌝ }
     ensures { λ r. ⌜ made r (λ m. (m ≤ length (now (tried .exit))) × ((k : ℕ) → k < m → Sized (getD (now (tried .exit)) k nothing))) ⌝ }
 {
     let mut count = 0;
@@ -179,7 +187,7 @@ fn list_flow(
     waiting: &mut Queue<Trial>,
     out: &mut [u8],
 ) -> Result<usize, Decline>
-    requires { ⌜ length (now lines) ≤ 1000 ⌝ ∗ ⌜ now heading .n ≤ 250 ⌝ ∗ ⌜ 16384 ≤ length (now out) ⌝ }
+    requires { ⌜ length (now lines) ≤ 1000 ⌝ ∗ ⌜ now heading .n ≤ 250 ⌝ ∗ ⌜ 16384 ≤ length (now out) ⌝ ∗ ⌜ Sound holds (now planner) ⌝ }
     ensures { λ r. ⌜ made r (λ len. len ≤ 16384) ⌝ }
 {
     let n = heading.n as usize;
@@ -210,7 +218,7 @@ fn list_hurdle(
     waiting: &mut Queue<Trial>,
     out: &mut [u8],
 ) -> Result<usize, Decline>
-    requires { ⌜ now heading .n ≤ 250 ⌝ ∗ ⌜ 16384 ≤ length (now out) ⌝ }
+    requires { ⌜ now heading .n ≤ 250 ⌝ ∗ ⌜ 16384 ≤ length (now out) ⌝ ∗ ⌜ Sound holds (now planner) ⌝ }
     ensures { λ r. ⌜ made r (λ len. len ≤ 16384) ⌝ }
 {
     let mut bytes = [0u8; 32];

@@ -2,7 +2,9 @@
 ghost use lib.ListN.{length};
 ghost use mathlib.Core.Path.{_≡_};
 ghost use Prim.Native.Nat.{_<_};
+ghost use Rattle.planner.specs.Calls.{Starts, Trials};
 ghost use Rattle.planner.specs.Limits.{limited};
+ghost use Rattle.planner.specs.Standing.{Sound};
 use super::super::answer::Outcome;
 use super::Planner;
 use chooser::Chooser;
@@ -35,7 +37,11 @@ struct Restore<'a> {
 
 impl Restore<'_> {
     // Starts a planner on the list as it stands.
-    fn start<C: Chooser>(&self, planner: &mut Planner<C>, n: u8, aim: u8) -> Result<(), Decline> {
+    fn start<C: Chooser>(&self, planner: &mut Planner<C>, n: u8, aim: u8) -> Result<(), Decline>
+        requires { ⌜ Sound (C·Chooser .has) (now planner) ⌝ }
+        ensures starts { λ r. ⌜ Starts (C·Chooser .has) (C·Chooser .clears) (C·Chooser .puts) (C·Chooser .takes) n (now (now (self .entry) .lines)) aim (now (planner .entry)) r (now (planner .exit)) ⌝ }
+        ensures sound { λ _. ⌜ Sound (C·Chooser .has) (now (planner .exit)) ⌝ }
+    {
         planner.start(n, self.lines, aim)
     }
 }
@@ -69,6 +75,9 @@ impl<C: Chooser> Planner<C> {
         low: u32,
         high: u32,
     ) -> Result<Outcome, Decline>
+        requires { ⌜ Sound (C·Chooser .has) (now self) ⌝ }
+        ensures trials { λ r. ⌜ Trials (C·Chooser .has) (C·Chooser .clears) (C·Chooser .puts) (C·Chooser .takes) n (now (lines .entry)) aim line low high (now (self .entry)) r (now (self .exit)) ⌝ }
+        ensures sound { λ _. ⌜ Sound (C·Chooser .has) (now (self .exit)) ⌝ }
         ensures back { λ _. ⌜ now (lines .exit) ≡ now (lines .entry) ⌝ }
     {
         test_plant(n, lines, aim)?;
