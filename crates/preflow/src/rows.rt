@@ -52,17 +52,14 @@ impl Stage {
         requires { ⌜ 2 ≤ n ⌝ ∗ ⌜ n ≤ 250 ⌝ }
         ensures { λ r. ⌜ elim aim [ Greatest ↦ Ends 0 1 n (r .start) (r .goal) (r .junctions) | Least ↦ Ends 1 0 n (r .start) (r .goal) (r .junctions) ] ⌝ }
     {
-        match aim {
-            Aim::Greatest => Stage {
-                start: 0,
-                goal: 1,
-                junctions: n,
-            },
-            Aim::Least => Stage {
-                start: 1,
-                goal: 0,
-                junctions: n,
-            },
+        let (start, goal) = match aim {
+            Aim::Greatest => (0, 1),
+            Aim::Least => (1, 0),
+        };
+        Stage {
+            start,
+            goal,
+            junctions: n,
         }
     }
 
