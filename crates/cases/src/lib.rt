@@ -1,4 +1,6 @@
 //! Tests over tables: worked plants from file to sheet, and every decline at its edge.
+#![tactic(auto)]
+
 #[cfg(test)]
 mod tests {
     use chooser::Fifo;

@@ -1,6 +1,6 @@
 -- Counting the flags that are set.
-use Rattle.std.specs.Prelude.{◌≡◌, ℕ, zero, suc, ◌+◌, ◌<◌, ◌≤◌, Bool, true, false, List, [], ◌∷◌, length, set, replicate, slice_index_or, slice_set, refl}
-use Rattle.std.proofs.Common.{arith, length-set}
+use Rattle.std.specs.Prelude.{◌≡◌, ℕ, zero, suc, ◌+◌, ◌<◌, ◌≤◌, Bool, true, false, List, [], ◌∷◌, length, replicate, slice_index_or, slice_set, refl}
+use Rattle.std.proofs.Common.{arith, length-set, subst}
 use Rattle.chooser.specs.Lists.{ones}
 
 pub ones_le : (bs : List Bool) → ones bs ≤ length bs
@@ -36,6 +36,10 @@ pub flag_below : (bs : List Bool) (u : ℕ) → slice_index_or bs u false ≡ tr
 flag_below [] u e = let z : ◌≡◌ {A = ℕ} 0 1 = cc in omega arith
 flag_below (b ∷ bs) zero e = omega arith
 flag_below (b ∷ bs) (suc u) e = omega (arith, flag_below bs u e)
+
+-- where there are 252 flags
+pub flag_below_252 : (bs : List Bool) (u : ℕ) → length bs ≡ 252 → slice_index_or bs u false ≡ true → u < 252
+flag_below_252 bs u e on = subst (λ (n : ℕ). u < n) e (flag_below bs u on)
 
 -- no flag is set at first
 pub unset : (n u : ℕ) → slice_index_or (replicate n false) u false ≡ false

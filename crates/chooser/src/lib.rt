@@ -1,4 +1,6 @@
 //! Choosers: sets of junction numbers below 252, from which one is taken at a time.
+#![tactic(auto)]
+
 ghost use Rattle.std.specs.Prelude.{◌≡◌, ℕ, ◌<◌, Bool, true, Option};
 ghost use Rattle.chooser.specs.Sets.{Added, Empty, Taken};
 

@@ -1,4 +1,6 @@
 //! What is known of cuts, best flows and hurdles: the contract of each function is a theorem.
+#![tactic(auto)]
+
 ghost use Rattle.cuts.specs.Theorems.{WeakDuality, Equality, BestExactly, NearSmallest, FarLargest, NearFar, NearSame, FarSame, AnyBest, Between, StrongDuality, BestExists, WideningKeeps, Widening, NoCircuit, HurdleTotal, NoFlow, HurdleTotalExactly, HurdleExactly, WorstExists, WorstSame};
 ghost use Rattle.cuts.specs.Examples.{Small, Blocked};
 

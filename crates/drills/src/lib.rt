@@ -1,4 +1,6 @@
 //! Tests over tables: every decline in every state, work in portions, both choosers.
+#![tactic(auto)]
+
 #[cfg(test)]
 mod declines;
 #[cfg(test)]

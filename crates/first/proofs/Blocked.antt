@@ -4,7 +4,7 @@ use Rattle.std.specs.List.{ContainsAt as Has}
 use Rattle.std.proofs.ByRecursion.{all-has}
 use Rattle.std.proofs.lemmas.Bool.{and_parts, and_from, lt-ltb, ltb-true, cases_lt}
 use Rattle.plant.specs.declared.line.Line.{Line}
-use Rattle.plant.specs.Plants.{Plant, Flow, Junctions, Sound, WorstHurdle, Residual, more, less, Reaches, here, on, line, low_of, high_of, inflow, outflow}
+use Rattle.plant.specs.Plants.{Plant, Flow, Junctions, Sound, WorstHurdle, Residual, more, less, Reaches, here, on, low_of, high_of, inflow, outflow}
 use Rattle.plant.specs.Held.{Arc, residual, other, flows_of}
 use Rattle.cuts.proofs.Sums.{over_nothing}
 use Rattle.cuts.proofs.Search.{in_or, From, Whole, reach}

@@ -4,7 +4,7 @@ use Rattle.std.specs.List.{ContainsAt as Has, AllByRecursion as All}
 use Rattle.std.proofs.ByRecursion.{All-append, All-weaker, has_append_left, has_append_right}
 use Rattle.std.proofs.lemmas.Bool.{cases_eq, eq-eqb, ne_eqb, cond-true, cond-false}
 use Rattle.plant.specs.declared.line.Line.{Line}
-use Rattle.plant.specs.Plants.{Plant, Flow, SoundLine, line, no_line, carried, summed, leaves, ends, low_of, high_of, inflow, outflow}
+use Rattle.plant.specs.Plants.{Plant, Flow, SoundLine, no_line, carried, summed, leaves, ends, low_of, high_of, inflow, outflow}
 use Rattle.plant.specs.Held.{Arc, lines_of, flows_of}
 use Rattle.cuts.proofs.Sums.{cond_zero}
 use Rattle.cuts.proofs.Hurdles.{with_back}

@@ -1,4 +1,6 @@
 //! How the end of stage one over a plant is read: the contract of each function is a theorem.
+#![tactic(auto)]
+
 ghost use Rattle.first.specs.Theorems.{FirstBegins, FirstCount, FirstFeasible, SecondBegins, FirstBlocked, FirstExactly};
 
 /// Over a sound plant the empty flow of stage one is balanced, so that the stage may begin.

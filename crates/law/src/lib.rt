@@ -1,4 +1,6 @@
 //! The law of runs: what a planner answers to any calls in any order.
+#![tactic(auto)]
+
 mod script;
 mod theorems;
 

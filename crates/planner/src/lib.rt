@@ -1,4 +1,6 @@
 //! A planner of circulation, over any chooser.
+#![tactic(auto)]
+
 mod answer;
 mod machine;
 

@@ -1,10 +1,10 @@
 -- Sums over lines as loops add them up.
-use Rattle.std.proofs.Common.{◌≡◌, ℕ, ◌+◌, ◌*◌, ◌<◌, ◌≤◌, Bool, true, false, cond, List, [], ◌∷◌, map, length, get_or, drop, ℤ, pos, ◌+ℤ◌, ◌-ℤ◌, neg_ℤ, ◌≤ℤ◌, sym, refl, ap, ◌∙◌, arith}
+use Rattle.std.proofs.Common.{◌≡◌, ℕ, ◌+◌, ◌<◌, ◌≤◌, List, [], ◌∷◌, length, get_or, drop, ℤ, pos, ◌+ℤ◌, refl, ap, arith}
 use Rattle.plant.specs.declared.aim.Aim.{Aim}
 use Rattle.plant.specs.declared.held.HeldLine.{HeldLine}
 use Rattle.plant.specs.declared.line.Line.{Line}
-use Rattle.plant.specs.Held.{Arc, arc, arcs, lines_of, flows_of}
-use Rattle.plant.specs.Plants.{Junctions, Flow, bound_over, list_total, surplus, summed, carried, leads_out, leads_in, forward, backward, leaves, ends, low_of, high_of, every}
+use Rattle.plant.specs.Held.{arc, arcs, lines_of, flows_of}
+use Rattle.plant.specs.Plants.{Junctions, bound_over, list_total, surplus, summed, high_of, every}
 use Rattle.plant.specs.Shares.{Adding, Small, added, share, at_junction, at_header}
 use Rattle.std.proofs.lemmas.List.{drop_more, drop_all}
 use Rattle.std.proofs.lemmas.Int.{ints}

@@ -1,7 +1,7 @@
 -- The small plant.
-use Rattle.std.proofs.Common.{◌≡◌, ℕ, zero, suc, ◌<◌, ◌≤◌, true, false, eqb, ◌≢◌, length, refl, arith}
+use Rattle.std.proofs.Common.{◌≡◌, ℕ, zero, suc, ◌<◌, ◌≤◌, ◌≢◌, refl, arith}
 use Rattle.plant.specs.Example.{full, small, Worked}
-use Rattle.plant.specs.Plants.{at, Feasible, high_of, inflow, line, low_of, outflow, Sound, SoundLine}
+use Rattle.plant.specs.Plants.{at, high_of, inflow, line, low_of, outflow, SoundLine}
 
 line_sound : (k : ℕ) → k < 3 → SoundLine 3 (line small k)
 line_sound zero h = record { from_in = omega arith; to_in = omega arith; apart = λ e. omega arith; ordered = omega arith }

@@ -1,17 +1,16 @@
 -- A list that passes the tests, line by line.
-use Rattle.std.proofs.Common.{◌≡◌, ℕ, zero, suc, ◌+◌, ◌<◌, ◌≤◌, Bool, true, false, cond, ◌||◌, eqb, ltb, leb, List, [], ◌∷◌, length, get_or, take, Some, None, Ok, Err, Option, Result, sym, refl, ap, ◌∙◌, subst, arith, length-take, ltb-false, leb-false}
+use Rattle.std.proofs.Common.{◌≡◌, ℕ, zero, suc, ◌<◌, ◌≤◌, Bool, true, false, ◌||◌, eqb, ltb, leb, List, [], ◌∷◌, length, get_or, take, Some, None, Ok, Err, Option, Result, sym, refl, ap, ◌∙◌, subst, arith, length-take, ltb-false, leb-false}
 use borrow.Author.Tests.{eqb-false}
 use Rattle.plant.specs.Fine.{Fine, Outward}
 use Rattle.plant.specs.Plants.{no_line}
 use Rattle.plant.specs.Tests.{test_lines, test_list, tested, unless, aim_numbered}
 use Rattle.plant.specs.declared.aim.Aim.{Aim}
-use Rattle.plant.specs.declared.aim.Aim.TheVariants.{Greatest, Least}
 use Rattle.plant.specs.declared.decline.Decline.TheVariants.{JunctionCount, LineCount, AimNumber}
 use Rattle.std.proofs.lemmas.List.{get_or-take}
 use Rattle.plant.specs.declared.decline.Decline.{Decline}
 use Rattle.plant.specs.declared.decline.Decline.TheVariants.{LineEnds, LineDirection, LineLimits}
 use Rattle.plant.specs.declared.line.Line.{Line}
-use Rattle.plant.specs.Tests.{test, test_line, test_limits, bad_ends, bad_direction, bad_limits, pass}
+use Rattle.plant.specs.Tests.{test, test_line, bad_ends, bad_direction, bad_limits, pass}
 
 -- what a test answers alone, and with more tests after it
 pub record Alone (on : Option Decline) (some more : Option Decline) : Type 0 where

@@ -1,5 +1,5 @@
 -- The tests of what a caller hands over, in their order. `None` means that all tests passed.
-use Rattle.std.specs.Prelude.{ℕ, zero, suc, Bool, cond, ◌||◌, List, [], ◌∷◌, length, Some, None, Ok, Err, Option, Result, ◌==◌, nat_le, nat_lt}
+use Rattle.std.specs.Prelude.{ℕ, Bool, cond, ◌||◌, List, [], ◌∷◌, length, Some, None, Ok, Err, Option, Result, ◌==◌, nat_le, nat_lt}
 use Rattle.plant.specs.declared.aim.Aim.{Aim}
 use Rattle.plant.specs.declared.aim.Aim.TheVariants.{Greatest, Least}
 use Rattle.plant.specs.declared.decline.Decline.{Decline}

@@ -1,4 +1,6 @@
 //! A pool plant: its lines, their limits, the tests of a list, and sums over lines.
+#![tactic(auto)]
+
 mod aim;
 mod decline;
 mod held;

@@ -1,5 +1,5 @@
 -- The tests before a file is written, and the file in its buffer.
-use Rattle.std.proofs.Common.{◌≡◌, ℕ, ◌+◌, ◌*◌, ◌<◌, ◌≤◌, Bool, true, false, ltb, List, [], ◌∷◌, ◌++◌, length, Some, None, Ok, Err, Option, Result, sym, refl, ap, ◌∙◌, arith, length-append, ltb-false, le-ltb, lt-ltb, le-leb}
+use Rattle.std.proofs.Common.{◌≡◌, ℕ, ◌+◌, ◌*◌, ◌<◌, ◌≤◌, Bool, true, false, ltb, List, [], ◌∷◌, ◌++◌, length, Some, None, Ok, Err, Option, Result, sym, refl, ap, ◌∙◌, arith, length-append, ltb-false, le-ltb, le-leb}
 use borrow.Author.Tests.{lt-leb}
 use Rattle.std.specs.List.{flat_map}
 use Rattle.plant.specs.Tests.{pass, test, tested, unless}
@@ -8,7 +8,6 @@ use Rattle.plant.specs.declared.decline.Decline.{Decline}
 use Rattle.plant.specs.declared.decline.Decline.TheVariants.{BufferLength, TrialCount}
 use Rattle.plant.specs.declared.line.Line.{Line}
 use Rattle.plantfile.specs.declared.reader.Trial.{Trial}
-use Rattle.plantfile.specs.Format.{Content}
 use Rattle.plantfile.specs.Writing.{Laid, Puts, aim_byte, encoded, line_bytes, test_each, test_trials, then_test, trial_bytes, written}
 use Rattle.plantfile.proofs.Paste.{length_pieces, pasted_start}
 

@@ -1,5 +1,5 @@
 -- Reading back what was written.
-use Rattle.std.proofs.Common.{◌≡◌, ℕ, ◌+◌, ◌*◌, ◌/◌, ◌%◌, ◌^◌, ◌<◌, ◌≤◌, false, eqb, List, [], ◌∷◌, ◌++◌, length, drop, Ok, Err, Result, sym, refl, ap, ◌∙◌, append_assoc, append-nil, arith, length-append, le-ltb, lt-ltb, ne_eqb}
+use Rattle.std.proofs.Common.{◌≡◌, ℕ, ◌+◌, ◌*◌, ◌/◌, ◌%◌, ◌^◌, ◌<◌, ◌≤◌, false, eqb, List, [], ◌∷◌, ◌++◌, length, drop, Ok, Err, Result, sym, refl, ◌∙◌, append_assoc, append-nil, arith, length-append, le-ltb, lt-ltb, ne_eqb}
 use native.Mathlib.Nat.{div-div-eq-div-mul}
 use Rattle.std.specs.List.{flat_map, AllByRecursion as All}
 use Rattle.plant.specs.declared.aim.Aim.{Aim}

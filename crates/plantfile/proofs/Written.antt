@@ -1,8 +1,8 @@
 -- What passes the tests fits its bytes.
-use Rattle.std.proofs.Common.{◌≡◌, ℕ, ◌<◌, ◌≤◌, Bool, true, false, ◌||◌, ltb, leb, List, [], ◌∷◌, length, Some, None, Ok, Err, Option, Result, sym, refl, ap, ◌∙◌, arith, ltb-false, leb-false}
+use Rattle.std.proofs.Common.{◌≡◌, ℕ, ◌≤◌, Bool, true, false, ◌||◌, ltb, leb, List, [], ◌∷◌, length, Some, None, Ok, Err, Option, Result, sym, refl, ap, ◌∙◌, arith, ltb-false, leb-false}
 use Rattle.std.proofs.ByRecursion.{All-from_get_or}
 use Rattle.std.specs.List.{AllByRecursion as All}
-use Rattle.plant.proofs.Tested.{Passed, passed}
+use Rattle.plant.proofs.Tested.{passed}
 use Rattle.plant.specs.Fine.{Fine}
 use Rattle.plant.specs.Plants.{no_line}
 use Rattle.plant.specs.Tests.{aim_numbered, pass, test, test_list, test_trial, tested, unless}
@@ -11,9 +11,9 @@ use Rattle.plant.specs.declared.decline.Decline.{Decline}
 use Rattle.plant.specs.declared.decline.Decline.TheVariants.{AimNumber, LineLimits, LineNumber}
 use Rattle.plant.specs.declared.line.Line.{Line}
 use Rattle.plantfile.specs.declared.reader.Trial.{Trial}
-use Rattle.plantfile.specs.Format.{Content, parse}
+use Rattle.plantfile.specs.Format.{parse}
 use Rattle.plantfile.specs.Round.{FitsLine, FitsTrial, WrittenReadsBack}
-use Rattle.plantfile.specs.Writing.{test_each, test_trials, then_test, written}
+use Rattle.plantfile.specs.Writing.{test_each, test_trials, then_test}
 use Rattle.plantfile.proofs.Laying.{few_each, few_tested, file_of, rest_of}
 use Rattle.plantfile.proofs.Round.{reads_back}
 

@@ -1,4 +1,6 @@
 //! The plant file: reader and writer.
+#![tactic(auto)]
+
 mod laws;
 mod reader;
 mod writer;

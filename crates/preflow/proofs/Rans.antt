@@ -1,7 +1,7 @@
 -- Runs that grow at their end.
-use Rattle.std.proofs.Common.{◌≡◌, ℕ, ◌+◌, ◌≤◌, Bool, true, false, cond, List, [], ◌∷◌, ◌++◌, length, Some, Option, sym, refl, ◌∙◌, subst, arith, length-append}
+use Rattle.std.proofs.Common.{◌≡◌, ℕ, ◌+◌, ◌≤◌, Bool, true, false, cond, [], ◌∷◌, ◌++◌, Some, Option, sym, refl, ◌∙◌, subst, arith, length-append}
 use mir.Val.{bool_byte}
-use Rattle.stage.specs.Model.{State, discharged, unspent}
+use Rattle.stage.specs.Model.{State}
 use Rattle.stage.specs.Runs.{Discharges}
 use Rattle.stage.proofs.Chains.{discharges_more, discharges_ran, relabels_more}
 use Rattle.preflow.specs.Choosers.{Puts, Takes}

@@ -3,7 +3,7 @@ use Rattle.std.proofs.Common.{◌≡◌, ℕ, ◌<◌, ◌≤◌, Bool, ◌≢�
 use Rattle.std.proofs.lemmas.List.{take_at}
 use Rattle.plant.specs.Held.{Arc}
 use Rattle.stage.specs.declared.Row.{Row}
-use Rattle.stage.specs.Model.{State, begin_puts, begun, discharge_puts, discharged, discharged_arcs, discharged_rows, unspent}
+use Rattle.stage.specs.Model.{State, begin_puts, begun, discharge_puts, discharged_arcs, discharged_rows, unspent}
 use Rattle.stage.specs.Runs.{PutAll, SetLike, Tied}
 use Rattle.stage.specs.Sets.{Empty}
 use Rattle.stage.specs.States.{Balanced}

@@ -1,4 +1,6 @@
 //! The code of a stage of push and relabel, over any chooser.
+#![tactic(auto)]
+
 mod begin;
 mod discharge;
 mod network;

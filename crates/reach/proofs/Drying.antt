@@ -1,5 +1,5 @@
 -- The dry junctions, from the marks of a search.
-use Rattle.std.proofs.Common.{◌≡◌, ℕ, ◌+◌, ◌-◌, ◌<◌, ◌≤◌, Bool, true, false, not, ◌&&◌, ◌||◌, ltb, List, ◌++◌, length, get_or, drop, set, replicate, Some, None, Ok, Err, Option, Result, sym, refl, ap, ◌∙◌, subst, ⊎_elim, arith, get_or-set_other, get_or-set_same}
+use Rattle.std.proofs.Common.{◌≡◌, ℕ, ◌+◌, ◌-◌, ◌<◌, ◌≤◌, Bool, false, not, ◌&&◌, ◌||◌, ltb, List, ◌++◌, length, get_or, drop, set, replicate, Some, None, Ok, Option, Result, sym, refl, ap, ◌∙◌, subst, ⊎_elim, arith, get_or-set_other, get_or-set_same}
 use lib.ListN.{length-replicate}
 use Rattle.std.proofs.lemmas.List.{get_or_past, get_or-replicate}
 use Rattle.std.proofs.lemmas.Bool.{and_from, and_left, and_parts, both_ways, cases_Bool, cases_eq, cases_lt, le-ltb, lt-ltb, ltb-true, not_from_false, not-true}
@@ -12,9 +12,8 @@ use Rattle.plant.specs.Tests.{pass, test, test_list}
 use Rattle.reach.specs.Drawn.{drawn}
 use Rattle.reach.specs.Drying.{Dried, DrySet, Lent, first_of, test_dry}
 use Rattle.reach.specs.Marking.{Marks, here}
-use Rattle.reach.specs.Sets.{member, set_bytes, size}
+use Rattle.reach.specs.Sets.{set_bytes, size}
 use Rattle.reach.proofs.Bytes.{size_alike, size_past}
-use Rattle.reach.proofs.Paths.{marks_alike}
 
 pub no_mark : (m w : ℕ) → get_or (replicate m false) w false ≡ false
 no_mark m w = ⊎_elim (λ h. get_or-replicate m w false false h) (λ h. get_or_past (replicate m false) w false (omega (arith, length-replicate m false))) (cases_lt w m)

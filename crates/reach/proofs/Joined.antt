@@ -1,5 +1,5 @@
 -- The two ways through a turn of the inner loop, over the queue itself.
-use Rattle.std.proofs.Common.{◌≡◌, ℕ, ◌+◌, ◌<◌, ◌≤◌, Bool, true, false, List, [], ◌∷◌, ◌++◌, length, get_or, set, sym, refl, ap, ◌∙◌, arith}
+use Rattle.std.proofs.Common.{◌≡◌, ℕ, ◌+◌, ◌<◌, ◌≤◌, Bool, true, false, List, [], ◌∷◌, ◌++◌, length, get_or, set, sym, ap, ◌∙◌, arith}
 use Rattle.ring.specs.declared.queue.Queue.{Queue}
 use Rattle.ring.specs.Held.{items, room}
 use Rattle.reach.proofs.Going.{At, Going, free, has_room, step_marked, step_passed}

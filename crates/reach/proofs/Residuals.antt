@@ -1,5 +1,5 @@
 -- What a residual says of an arc.
-use Rattle.std.proofs.Common.{◌≡◌, ℕ, ◌-◌, ◌<◌, ◌≤◌, Bool, true, false, cond, ◌&&◌, ◌||◌, eqb, ltb, sym, refl, ap, ◌∙◌, ⊎_elim, arith}
+use Rattle.std.proofs.Common.{◌≡◌, ℕ, ◌-◌, Bool, true, false, ◌&&◌, ◌||◌, eqb, ltb, sym, refl, ap, ◌∙◌, ⊎_elim, arith}
 use Rattle.plant.specs.Held.{Arc, residual}
 use Rattle.plant.specs.Plants.{high_of, low_of}
 use Rattle.reach.specs.Drawn.{can_fall, can_rise, opens}

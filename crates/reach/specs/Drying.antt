@@ -1,5 +1,5 @@
 -- The dry junctions of a list, and the answer of a call that asks for them.
-use Rattle.std.specs.Prelude.{◌≡◌, ℕ, ◌<◌, Bool, true, ◌||◌, ◌≢◌, List, ◌++◌, length, drop, Some, None, Ok, Err, Option, Result, nat_lt}
+use Rattle.std.specs.Prelude.{◌≡◌, ℕ, ◌<◌, true, ◌||◌, ◌≢◌, List, ◌++◌, drop, Some, None, Ok, Err, Option, Result, nat_lt}
 use Rattle.plant.specs.declared.decline.Decline.{Decline}
 use Rattle.plant.specs.declared.decline.Decline.TheVariants.{BufferLength}
 use Rattle.plant.specs.declared.line.Line.{Line}

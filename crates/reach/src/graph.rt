@@ -17,7 +17,7 @@ pub struct Reversed<'a, G> {
 }
 
 impl<G: Graph> Graph for Reversed<'_, G> {
-    ghost edge = { λ s v w. G.Graph.edge s.graph.now w v };
+    ghost edge = { λ s v w. G.edge s.graph.now w v };
 
     fn leads(&self, v: u8, w: u8) -> bool {
         self.graph.leads(w, v)

@@ -1,4 +1,6 @@
 //! Which junctions a graph reaches, and sets of junctions.
+#![tactic(auto)]
+
 mod adjacency;
 mod dry;
 mod graph;

@@ -18,7 +18,7 @@ fn clear(marks: &mut [bool])
 // Marks what the graph reaches from `from`, where there is room.
 fn mark_from<G: Graph>(graph: &G, n: u8, from: u8, marks: &mut [bool], places: &mut [u8])
     requires { (from < n) × ((n ≤ length marks.old) × (n ≤ length places.old)) }
-    ensures { Marks (edge graph.now) n from marks.new }
+    ensures { Marks (G.edge graph.now) n from marks.new }
 {
     clear(marks);
     marks[from as usize] = true;
@@ -43,7 +43,7 @@ pub fn mark_reached<G: Graph>(
     marks: &mut [bool],
     places: &mut [u8],
 ) -> Result<(), Decline>
-    ensures walked { Searched (edge graph.now) n from marks.old (length places.old) result marks.new }
+    ensures walked { Searched (G.edge graph.now) n from marks.old (length places.old) result marks.new }
     ensures kept { (length marks.old < n → places.new ≡ places.old) × (length places.old < n → places.new ≡ places.old) }
 {
     if marks.len() < n as usize || places.len() < n as usize {

@@ -1,4 +1,6 @@
 //! A queue over memory that the caller lends.
+#![tactic(auto)]
+
 mod queue;
 
 pub use queue::Queue;

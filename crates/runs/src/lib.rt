@@ -1,4 +1,6 @@
 //! Plays scripts of calls on a planner.
+#![tactic(auto)]
+
 mod playing;
 mod replaying;
 

@@ -1,4 +1,6 @@
 //! Reads a plant file from standard input and prints its sheet.
+#![tactic(auto)]
+
 ghost use Rattle.std.specs.Prelude.{◌≤◌, length, IfOk};
 
 use sheet_text::{SHEET_LEN, write_text};

@@ -1,4 +1,6 @@
 //! The sheet as text.
+#![tactic(auto)]
+
 mod checked;
 mod listing;
 mod readings;

@@ -1,9 +1,9 @@
 -- The network of stage one over a plant, and how its end is read.
-use Rattle.std.specs.Prelude.{◌≡◌, ℕ, zero, suc, ◌+◌, ◌-◌, Bool, true, false, cond, not, ◌&&◌, List, [], ◌∷◌, ◌++◌, map, length, ◌==◌, nat_lt}
+use Rattle.std.specs.Prelude.{ℕ, zero, suc, ◌+◌, ◌-◌, Bool, true, cond, not, ◌&&◌, List, [], ◌∷◌, ◌++◌, map, ◌==◌, nat_lt}
 use borrow.Author.Differences.{up, down}
 use Rattle.plant.specs.declared.line.Line.{Line}
-use Rattle.plant.specs.Held.{Arc, flows_of}
-use Rattle.plant.specs.Plants.{Flow, Plant, every, high_of, limited, low_of, summed, surplus}
+use Rattle.plant.specs.Held.{Arc}
+use Rattle.plant.specs.Plants.{Plant, every, high_of, limited, low_of, summed, surplus}
 
 -- a plant's line in stage one: low 0, and what lies between low and high
 abbrev pub shifted : Line → Line

@@ -1,4 +1,6 @@
 //! A stage of push-relabel on lists, and the laws of its runs.
+#![tactic(auto)]
+
 ghost use Rattle.stage.specs.Laws.{BeginningHolds, DischargeKeeps, ActiveGoesOn, RelabelExact, ScanStops, ExcessBounded, RunsEnd, SetTies, StartParted, GoalOutOfReach, EndIsBest, GoalGetsAll, SecondStageBest};
 
 /// What a planner keeps of a junction: its excess and its label.

@@ -1,4 +1,6 @@
 //! Plays one script of calls over each chooser, and prints every call with its answer.
+#![tactic(auto)]
+
 mod script;
 mod words;
 

@@ -1,4 +1,6 @@
 //! Text in the caller's buffer: pieces one after another, and the rows of a sheet.
+#![tactic(auto)]
+
 mod pieces;
 mod sheets;
 

@@ -1,4 +1,6 @@
 //! Transcripts of small plants: the contract of each function says that one obeys the law, or that none like it does.
+#![tactic(auto)]
+
 mod breaking;
 mod obeying;
 

@@ -8,7 +8,7 @@ use Rattle.plant.proofs.Tested.{Passed, passed}
 use Rattle.plant.specs.declared.aim.Aim.{Aim}
 use Rattle.plant.specs.declared.aim.Aim.TheVariants.{Greatest, Least}
 use Rattle.plant.specs.declared.decline.Decline.{Decline}
-use Rattle.plant.specs.Plants.{bound, Cut, FarCut, Feasible, Flow, high_of, Hurdle, Junctions, leads_in, leads_out, line, low_of, NearCut, NoBetter, Plant, shortfall, Sound, summed, Tightest, total, WorstHurdle}
+use Rattle.plant.specs.Plants.{bound, Cut, FarCut, Feasible, Flow, high_of, Hurdle, Junctions, leads_in, leads_out, low_of, NearCut, NoBetter, Plant, shortfall, Sound, summed, Tightest, total, WorstHurdle}
 use Rattle.plant.specs.Tests.{test_list, unless}
 use Rattle.cuts.specs.Theorems.{Outward}
 use Rattle.cuts.proofs.Bests.{far_same, near_same, strong_duality}

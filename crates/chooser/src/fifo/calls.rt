@@ -2,8 +2,7 @@
 ghost use Rattle.std.specs.Prelude.{◌≡◌, []};
 ghost use Rattle.chooser.specs.FifoCalls.{arrivals, Cleared, holds, Put, TakenFirst};
 ghost use Rattle.chooser.specs.Sets.{Empty};
-ghost use Rattle.std.proofs.Common.{arith};
-ghost use Rattle.chooser.specs.Flags.{flag_below};
+ghost use Rattle.chooser.specs.Flags.{flag_below_252};
 
 use super::Fifo;
 use crate::Chooser;
@@ -32,7 +31,7 @@ impl Chooser for Fifo {
 
     ghost takes = { TakenFirst };
 
-    ghost below = { λ c v on. omega (arith, flag_below c.member v on) };
+    ghost below = { λ c v on. flag_below_252 c.member v c.wide.0 on };
 
     fn clear(&mut self) {
         *self = Fifo::new();

@@ -2,8 +2,7 @@
 ghost use Rattle.std.specs.Prelude.{◌≡◌, ℕ, ◌+◌, ◌<◌, ◌≤◌, [], length, slice_index};
 ghost use Rattle.chooser.specs.HighestCalls.{arrivals, Cleared, holds, Put, TakenHighest};
 ghost use Rattle.chooser.specs.Sets.{Empty};
-ghost use Rattle.std.proofs.Common.{arith};
-ghost use Rattle.chooser.specs.Flags.{flag_below};
+ghost use Rattle.chooser.specs.Flags.{flag_below_252};
 
 use super::HighestLabel;
 use crate::Chooser;
@@ -61,7 +60,7 @@ impl Chooser for HighestLabel {
 
     ghost takes = { TakenHighest };
 
-    ghost below = { λ c v on. omega (arith, flag_below c.member v on) };
+    ghost below = { λ c v on. flag_below_252 c.member v c.wide.0 on };
 
     fn clear(&mut self) {
         *self = HighestLabel::new();

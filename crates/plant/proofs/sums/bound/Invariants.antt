@@ -1,7 +1,5 @@
-use Rattle.std.proofs.Common.{pos}
 use Rattle.plant.specs.Held.{marked}
-use Rattle.plant.specs.Shares.{Adding, share, at_junction}
-use Rattle.plant.proofs.Adding.{held_share}
+use Rattle.plant.specs.Shares.{Adding, share}
 use Rattle.plant.proofs.sums.bound.Given as goal
 
 abbrev pub invariant-loop-line : goal.invariant-loop-line

@@ -1,6 +1,4 @@
-use Rattle.std.proofs.Common.{pos}
-use Rattle.plant.specs.Held.{marked}
-use Rattle.plant.specs.Shares.{Adding, share, at_junction}
+use Rattle.plant.specs.Shares.{Adding}
 use Rattle.plant.proofs.Adding.{held_share}
 use Rattle.plant.proofs.sums.total_of.Given as goal
 

@@ -9,6 +9,6 @@ returns-in-78 c =
     let e = n_first c.args.file.now _ _ (search rules) (search rules) refl (tail_is c.args.file.now 2) in
     let q = c.args.waiting.now in
     record {
-      room = c.read-body.ensures.room;
-      told = subst (λ o. Told o c.read-body.result c.args.lines.now c.read-body.new.lines (room q) (items q) (items c.read-body.new.waiting)) (sym e) c.read-body.ensures.told;
+      room = c.read_body.ensures.room;
+      told = subst (λ o. Told o c.read_body.result c.args.lines.now c.read_body.new.lines (room q) (items q) (items c.read_body.new.waiting)) (sym e) c.read_body.ensures.told;
     }

@@ -4,6 +4,6 @@ use Rattle.plantfile.proofs.writer.put_line.Goals as goal
 
 pub returns : goal.returns
 returns c =
-    let low = same_text c.to-be-bytes.ensures c.put-at-2.ensures in
-    let high = same_text c.to-be-bytes-2.ensures c.put.ensures in
+    let low = same_text c.to_be_bytes.ensures c.put-at-2.ensures in
+    let high = same_text c.to_be_bytes-2.ensures c.put.ensures in
     then_puts c.put-at.ensures (then_puts low high (omega arith)) (omega arith)

@@ -7,11 +7,11 @@ use Rattle.plantfile.proofs.writer.put_lines.Goals as goal
 pub loop-line-init : goal.loop-line-init
 loop-line-init c = puts_nothing c.args.out.now c.args.start
 
-pub put-line-at-requires : goal.put-line-at-requires
-put-line-at-requires c = omega (arith, reached line_bytes (λ _. refl) c.args.lines.now c.loop-line.line-index (omega arith) c.loop-line.invariant)
+pub put_line-at-requires : goal.put_line-at-requires
+put_line-at-requires c = omega (arith, reached line_bytes (λ _. refl) c.args.lines.now c.loop-line.line-index (omega arith) c.loop-line.invariant)
 
 pub loop-line-preserved : goal.loop-line-preserved
-loop-line-preserved c = one_more line_bytes (λ _. refl) c.args.lines.now c.loop-line.line-index no_line c.loop-line-test.true c.requires c.loop-line.invariant c.put-line-at.ensures
+loop-line-preserved c = one_more line_bytes (λ _. refl) c.args.lines.now c.loop-line.line-index no_line c.loop-line-test.true c.requires c.loop-line.invariant c.put_line-at.ensures
 
 pub returns : goal.returns
 returns c = all_pieces line_bytes (λ _. refl) c.args.lines.now c.loop-line.line-index c.loop-line-test.false c.loop-line.invariant

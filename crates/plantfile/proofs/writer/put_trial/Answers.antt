@@ -4,7 +4,7 @@ use Rattle.plantfile.proofs.writer.put_trial.Goals as goal
 
 pub returns : goal.returns
 returns c =
-    let number = same_text c.to-be-bytes.ensures c.put-at-2.ensures in
-    let low = same_text c.to-be-bytes-2.ensures c.put-at-3.ensures in
-    let high = same_text c.to-be-bytes-3.ensures c.put.ensures in
+    let number = same_text c.to_be_bytes.ensures c.put-at-2.ensures in
+    let low = same_text c.to_be_bytes-2.ensures c.put-at-3.ensures in
+    let high = same_text c.to_be_bytes-3.ensures c.put.ensures in
     then_puts c.put-at.ensures (then_puts number (then_puts low high (omega arith)) (omega arith)) (omega arith)

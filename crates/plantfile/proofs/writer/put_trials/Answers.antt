@@ -6,11 +6,11 @@ use Rattle.plantfile.proofs.writer.put_trials.Goals as goal
 pub loop-trial-init : goal.loop-trial-init
 loop-trial-init c = puts_nothing c.args.out.now c.args.start
 
-pub put-trial-at-requires : goal.put-trial-at-requires
-put-trial-at-requires c = omega (arith, reached trial_bytes (λ _. refl) c.args.trials.now c.loop-trial.trial-index (omega arith) c.loop-trial.invariant)
+pub put_trial-at-requires : goal.put_trial-at-requires
+put_trial-at-requires c = omega (arith, reached trial_bytes (λ _. refl) c.args.trials.now c.loop-trial.trial-index (omega arith) c.loop-trial.invariant)
 
 pub loop-trial-preserved : goal.loop-trial-preserved
-loop-trial-preserved c = one_more trial_bytes (λ _. refl) c.args.trials.now c.loop-trial.trial-index (record { line = 0; low = 0; high = 0 }) c.loop-trial-test.true c.requires c.loop-trial.invariant c.put-trial-at.ensures
+loop-trial-preserved c = one_more trial_bytes (λ _. refl) c.args.trials.now c.loop-trial.trial-index (record { line = 0; low = 0; high = 0 }) c.loop-trial-test.true c.requires c.loop-trial.invariant c.put_trial-at.ensures
 
 pub returns : goal.returns
 returns c = all_pieces trial_bytes (λ _. refl) c.args.trials.now c.loop-trial.trial-index c.loop-trial-test.false c.loop-trial.invariant

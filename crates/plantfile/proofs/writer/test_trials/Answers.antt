@@ -23,23 +23,23 @@ here_passes m ts k h e = at_drop_more (test_each m) ts k no_trial h ∙ then_pas
 pub loop-trial-init : goal.loop-trial-init
 loop-trial-init c = refl
 
-pub returns-in-err-test-trial : goal.returns-in-err-test-trial
-returns-in-err-test-trial c =
-    let p = err_from_is_err_and c.from-residual.result c.from-residual.ensures.1 in
+pub returns-in_err-test_trial : goal.returns-in_err-test_trial
+returns-in_err-test_trial c =
+    let p = err_from_is_err_and c.from_residual.result c.from_residual.ensures.1 in
     let m = c.args.count in
     let ts = c.args.trials.now in
     let k = c.loop-trial.trial-index in
-    rw (p.1, p.2) (sym (ap pass (few_each m ts c.if-trials-gt-MAX-TRIALS.false ∙ c.loop-trial.invariant ∙ here_fails m ts k _ c.loop-trial-test.true c.in-err-test-trial.ensures)))
+    rw (p.1, p.2) (sym (ap pass (few_each m ts c.if-trials-gt-MAX_TRIALS.false ∙ c.loop-trial.invariant ∙ here_fails m ts k _ c.loop-trial-test.true c.in_err-test_trial.ensures)))
 
 pub loop-trial-preserved : goal.loop-trial-preserved
 loop-trial-preserved c =
     let m = c.args.count in
     let ts = c.args.trials.now in
     let k = c.loop-trial.trial-index in
-    c.loop-trial.invariant ∙ here_passes m ts k c.loop-trial-test.true c.in-ok-test-trial.ensures
+    c.loop-trial.invariant ∙ here_passes m ts k c.loop-trial-test.true c.in_ok-test_trial.ensures
 
 pub returns : goal.returns
 returns c =
     let m = c.args.count in
     let ts = c.args.trials.now in
-    sym (ap pass (few_each m ts c.if-trials-gt-MAX-TRIALS.false ∙ c.loop-trial.invariant ∙ at_drop_all (test_each m) ts c.loop-trial.trial-index c.loop-trial-test.false))
+    sym (ap pass (few_each m ts c.if-trials-gt-MAX_TRIALS.false ∙ c.loop-trial.invariant ∙ at_drop_all (test_each m) ts c.loop-trial.trial-index c.loop-trial-test.false))

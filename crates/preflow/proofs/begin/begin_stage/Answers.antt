@@ -10,10 +10,10 @@ returns g c =
     let st = c.args.stage in
     let n = st.junctions in
     let rows = c.args.rows.now in
-    let rs = c.begin-rows.new.rows in
+    let rs = c.begin_rows.new.rows in
     let post = post_of 0 (n - 0) rows in
     let r = begin_done g.C.Chooser.has g.C.Chooser.clears g.C.Chooser.puts g.C.Chooser.takes n st.start st.goal (arcs c.args.lines.now)
-    c.args.chooser.now c.clear.new.self c.put-active.new.chooser (arcs c.begin-rows.new.lines) rs (take (n - 0) (rs ++ post)) post
-    st.few st.inside.0 st.inside.1 st.apart c.requires.0 c.requires.1 c.begin-rows.ensures.lines c.begin-rows.ensures.rows
-    c.clear.ensures.clears c.clear.ensures.empty (ap (λ (k : ℕ). take k (rs ++ post)) (sub-zero n)) c.put-active.ensures in
+    c.args.chooser.now c.clear.new.self c.put_active.new.chooser (arcs c.begin_rows.new.lines) rs (take (n - 0) (rs ++ post)) post
+    st.few st.inside.0 st.inside.1 st.apart c.requires.0 c.requires.1 c.begin_rows.ensures.lines c.begin_rows.ensures.rows
+    c.clear.ensures.clears c.clear.ensures.empty (ap (λ (k : ℕ). take k (rs ++ post)) (sub-zero n)) c.put_active.ensures in
     record { state = r.state; puts = r.puts_are; stands = r.stands; tied = r.tied }

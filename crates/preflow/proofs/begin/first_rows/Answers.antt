@@ -8,7 +8,7 @@ pub send-requires : goal.send-requires
 send-requires c =
     let n = c.args.stage.junctions in
     let s = c.args.stage.start in
-    let e = c.relabel.ensures ∙ first_none n s c.blank-rows.new.rows (omega arith) c.args.stage.inside.0 c.blank-rows.ensures in
+    let e = c.relabel.ensures ∙ first_none n s c.blank_rows.new.rows (omega arith) c.args.stage.inside.0 c.blank_rows.ensures in
     let q = c.loop-held.invariant n s c.requires.1.0 e in
     let a = item_all c.args.lines.now c.loop-held.held-index c.held-item.result c.loop-held-test.true c.held-item.is (SoundArc n) c.requires.1.0 in (
       omega (arith, a.sound.from_in),
@@ -30,5 +30,5 @@ pub returns : goal.returns
 returns c =
     let n = c.args.stage.junctions in
     let s = c.args.stage.start in
-    let e = c.relabel.ensures ∙ first_none n s c.blank-rows.new.rows (omega arith) c.args.stage.inside.0 c.blank-rows.ensures in
+    let e = c.relabel.ensures ∙ first_none n s c.blank_rows.new.rows (omega arith) c.args.stage.inside.0 c.blank_rows.ensures in
     first_all c.args.lines.now c.loop-held.held-index n s c.loop-held.rows c.loop-held-test.false (c.loop-held.invariant n s c.requires.1.0 e)

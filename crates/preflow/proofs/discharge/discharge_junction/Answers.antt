@@ -33,8 +33,8 @@ lowest-label-requires g c =
     let n : length c.scan.new.rows ≡ st.junctions = omega (arith, h.standing.size) in
     sound_like (length c.scan.new.rows) st.junctions (arcs c.scan.new.lines) (scan_arcs c.args.v (arcs c.args.lines.now) c.args.rows.now) n c.scan.ensures.lines h₁.standing.lines
 
-pub overflow-add-label : goal.overflow-add-label
-overflow-add-label g c = let f = lowest_start c.args.v (2 * c.args.stage.junctions) (arcs c.scan.new.lines) c.scan.new.rows in omega (arith, f, c.lowest-label.ensures, c.args.stage.few)
+pub overflow_add-label : goal.overflow_add-label
+overflow_add-label g c = let f = lowest_start c.args.v (2 * c.args.stage.junctions) (arcs c.scan.new.lines) c.scan.new.rows in omega (arith, f, c.lowest-label.ensures, c.args.stage.few)
 
 pub returns-then-rows-v-le0 : goal.returns-then-rows-v-le0
 returns-then-rows-v-le0 g c =

@@ -23,8 +23,8 @@ bounds-rows-v g c =
     let w = active_true st.junctions st.start st.goal c.args.rows.now c.args.v h.standing.size c.requires.1 in
     omega (arith, w.inside, h.standing.size, c.loop-k.invariant.half.rows_size)
 
-pub push-and-put-requires : goal.push-and-put-requires
-push-and-put-requires g c =
+pub push_and_put-requires : goal.push_and_put-requires
+push_and_put-requires g c =
     let st = c.args.stage in
     let v = c.args.v in
     let h = c.requires.0.holds in
@@ -44,8 +44,8 @@ loop-k-preserved g c =
     let h = c.requires.0.holds in
     let w = active_true st.junctions st.start st.goal c.args.rows.now v h.standing.size c.requires.1 in
     going_more g.C.Chooser.has g.C.Chooser.puts st.start st.goal v c.loop-k.k (arcs c.args.lines.now) c.args.rows.now c.args.chooser.now
-    c.loop-k.lines c.loop-k.rows c.loop-k.chooser c.index-lines-k.result c.push-and-put.new.held c.push-and-put.new.rows c.push-and-put.new.chooser
-    (omega (arith, w.inside, h.standing.size)) (omega arith) c.push-and-put.ensures.line c.push-and-put.ensures.rows c.push-and-put.ensures.puts c.loop-k.invariant
+    c.loop-k.lines c.loop-k.rows c.loop-k.chooser c.index-lines-k.result c.push_and_put.new.held c.push_and_put.new.rows c.push_and_put.new.chooser
+    (omega (arith, w.inside, h.standing.size)) (omega arith) c.push_and_put.ensures.line c.push_and_put.ensures.rows c.push_and_put.ensures.puts c.loop-k.invariant
 
 pub returns-after-loop-k : goal.returns-after-loop-k
 returns-after-loop-k g c =

@@ -10,9 +10,9 @@ returns c =
     let ls = c.lines-lines.result.now in
     let hs = take (length ls) c.args.held.now in
     record {
-      lines = c.settle-lines.ensures ∙ ap (λ l. second_arcs l (arcs hs)) c.lines-lines.ensures.value;
+      lines = c.settle_lines.ensures ∙ ap (λ l. second_arcs l (arcs hs)) c.lines-lines.ensures.value;
       number = ap length c.lines-lines.ensures.value;
       few = c.lines-lines.ensures.few;
-      light = light_like (arcs (take (length ls) c.settle-lines.new.held)) (second_arcs ls (arcs hs)) c.settle-lines.ensures
+      light = light_like (arcs (take (length ls) c.settle_lines.new.held)) (second_arcs ls (arcs hs)) c.settle_lines.ensures
           (second_light c.args.plant.now.n ls c.lines-lines.ensures.few c.lines-lines.ensures.fine (arcs hs));
     }

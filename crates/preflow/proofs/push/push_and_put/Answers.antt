@@ -14,11 +14,11 @@ returns-in-Some g c =
     let rs = c.args.rows.now in
     let w = c.in-Some.w in
     let a = told_some (wakes s t v x rs) (other v x) w c.in-Some.ensures.woken in
-    let k : lab c.push-due.new.rows w ≡ lab rs (other v x) =
-    ap (λ r. lab r w) c.push-due.ensures.rows ∙ lab_sent v (other v x) (amount v x rs) rs w ∙ ap (lab rs) a.1 in
+    let k : lab c.push_due.new.rows w ≡ lab rs (other v x) =
+    ap (λ r. lab r w) c.push_due.ensures.rows ∙ lab_sent v (other v x) (amount v x rs) rs w ∙ ap (lab rs) a.1 in
     record {
-      line = c.push-due.ensures.line;
-      rows = c.push-due.ensures.rows;
-      puts = put_yes g.C.Chooser.has g.C.Chooser.puts (wakes s t v x rs) (other v x) (lab rs (other v x)) w (lab c.push-due.new.rows w)
+      line = c.push_due.ensures.line;
+      rows = c.push_due.ensures.rows;
+      puts = put_yes g.C.Chooser.has g.C.Chooser.puts (wakes s t v x rs) (other v x) (lab rs (other v x)) w (lab c.push_due.new.rows w)
           c.args.chooser.now c.put.new.self a.0 a.1 k (c.put.ensures.puts, c.put.ensures.set);
     }

@@ -5,7 +5,7 @@ use Rattle.stage.proofs.Scan.{amount_fits}
 use Rattle.stage.proofs.Stops.{still}
 use Rattle.preflow.proofs.Wakes.{woken_yes, woken_old, woken_never}
 use Rattle.preflow.proofs.push.push_due.Goals as goal
-use Rattle.preflow.proofs.push.push_due.Goals.{else-not-was-active-via-then-not-was-active+else-is-active, else-not-was-active-via-else-not-was-active}
+use Rattle.preflow.proofs.push.push_due.Goals.{else-not-was_active-via-then-not-was_active+else-is_active, else-not-was_active-via-else-not-was_active}
 
 pub returns-then-given-eq0 : goal.returns-then-given-eq0
 returns-then-given-eq0 c =
@@ -15,8 +15,8 @@ returns-then-given-eq0 c =
 pub push-requires : goal.push-requires
 push-requires c = (c.requires.0, (c.requires.1.0, (c.requires.1.1.bounded, omega (arith, c.due-given.ensures, amount_fits c.args.v (arc c.args.held.now) c.args.rows.now))))
 
-pub returns-then-is-active : goal.returns-then-is-active
-returns-then-is-active c =
+pub returns-then-is_active : goal.returns-then-is_active
+returns-then-is_active c =
     let v = c.args.v in
     let x = arc c.args.held.now in
     let rs = c.args.rows.now in
@@ -24,12 +24,12 @@ returns-then-is-active c =
     record {
       line = c.push.ensures.line ∙ ap (λ d. shift v d x) c.due-given.ensures;
       rows = er;
-      woken = woken_yes c.args.stage.start c.args.stage.goal v x rs c.push.new.rows c.other-end-w.result er c.other-end-w.ensures
-          (sym c.if-is-active.ensures) (sym c.if-not-was-active.ensures);
+      woken = woken_yes c.args.stage.start c.args.stage.goal v x rs c.push.new.rows c.other_end-w.result er c.other_end-w.ensures
+          (sym c.if-is_active.ensures) (sym c.if-not-was_active.ensures);
     }
 
-pub returns-else-not-was-active : goal.returns-else-not-was-active
-returns-else-not-was-active c =
+pub returns-else-not-was_active : goal.returns-else-not-was_active
+returns-else-not-was_active c =
     let v = c.args.v in
     let x = arc c.args.held.now in
     let rs = c.args.rows.now in
@@ -37,12 +37,12 @@ returns-else-not-was-active c =
     record {
       line = c.push.ensures.line ∙ ap (λ d. shift v d x) c.due-given.ensures;
       rows = er;
-      woken = elim c.else-not-was-active.branch [
-        | else-not-was-active-via-then-not-was-active+else-is-active w ↦
-            woken_never c.args.stage.start c.args.stage.goal v x rs c.push.new.rows c.other-end-w.result er c.other-end-w.ensures
-            (sym w.if-is-active.ensures)
-        | else-not-was-active-via-else-not-was-active w ↦
-            woken_old c.args.stage.start c.args.stage.goal v x rs c.push.new.rows c.other-end-w.result er c.other-end-w.ensures
-            (sym w.if-not-was-active.ensures)
+      woken = elim c.else-not-was_active.branch [
+        | else-not-was_active-via-then-not-was_active+else-is_active w ↦
+            woken_never c.args.stage.start c.args.stage.goal v x rs c.push.new.rows c.other_end-w.result er c.other_end-w.ensures
+            (sym w.if-is_active.ensures)
+        | else-not-was_active-via-else-not-was_active w ↦
+            woken_old c.args.stage.start c.args.stage.goal v x rs c.push.new.rows c.other_end-w.result er c.other_end-w.ensures
+            (sym w.if-not-was_active.ensures)
       ];
     }

@@ -14,12 +14,12 @@ returns c =
     let ls = c.args.lines.now in
     let out = c.args.out.now in
     let edge = tabled c.drawn.result.rows in
-    let marks = c.mark-reached.new.marks in
+    let marks = c.mark_reached.new.marks in
     let D = marked c.unmarked.result in
-    let found = searched_marks edge n 0 (replicate 256 false) (length c.args.places.now) c.mark-reached.result marks (omega arith) (omega arith) c.mark-reached.ensures in
+    let found = searched_marks edge n 0 (replicate 256 false) (length c.args.places.now) c.mark_reached.result marks (omega arith) (omega arith) c.mark_reached.ensures.walked in
     answered n ls _ _ _ D
-    (passed (test_list n ls None) c.in-ok-test-list.ensures)
+    (passed (test_list n ls None) c.in_ok-test_list.ensures)
     (or_from (ltb (length c.args.places.now) n) (ltb (length out) 32) (le-ltb (length c.args.places.now) n (omega arith)) (le-ltb (length out) 32 (omega arith)))
     (dry_set n ls marks D (marks_alike edge (drawn ls) n 0 marks c.drawn.ensures found.1) c.unmarked.ensures)
-    (ap Ok (c.len.ensures ∙ dry_size n marks D (member c.from-marks-dry.result.bytes) (omega arith) c.unmarked.ensures c.from-marks-dry.ensures.members))
-    (ap (λ (xs : List ℕ). xs ++ drop 32 out) (c.copy-from-slice.ensures.after ∙ c.from-marks-dry.ensures.bytes))
+    (ap Ok (c.len.ensures ∙ dry_size n marks D (member c.from_marks-dry.result.bytes) (omega arith) c.unmarked.ensures c.from_marks-dry.ensures.members))
+    (ap (λ (xs : List ℕ). xs ++ drop 32 out) (c.copy_from_slice.ensures.after ∙ c.from_marks-dry.ensures.bytes))

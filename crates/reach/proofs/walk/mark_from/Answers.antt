@@ -1,5 +1,4 @@
-use Rattle.std.proofs.Common.{◌≡◌, ◌+◌, ◌<◌, ◌≤◌, true, [], ◌∷◌, ◌++◌, length, sym, refl, ap, ◌∙◌, arith, rules}
-use Rattle.ring.specs.Held.{items, room}
+use Rattle.std.proofs.Common.{[], ◌∷◌, ◌++◌, length, sym, refl, ap, ◌∙◌, arith}
 use Rattle.reach.proofs.Going.{begun, ended, seen, taken}
 use Rattle.reach.proofs.Joined.{join_marked, join_passed}
 use Rattle.std.proofs.lemmas.Bool.{both_ways}
@@ -48,4 +47,4 @@ loop-w-preserved g c =
     ]
 
 pub returns : goal.returns
-returns g c = ended _ _ _ _ _ _ c.loop-v.invariant.0 c.in-default.ensures.took.0
+returns g c = ended _ _ _ _ _ _ c.loop-v.invariant.0 c.in_default.ensures.took.0

@@ -1,4 +1,4 @@
-use Rattle.std.proofs.Common.{◌≡◌, ℕ, ◌≤◌, Bool, true, false, List, get_or, arith, rules}
+use Rattle.std.proofs.Common.{◌≡◌, ℕ, ◌≤◌, Bool, false, List, get_or, arith, rules}
 use Rattle.reach.specs.Marking.{Marks, Reaches, here, on}
 use Rattle.std.proofs.lemmas.Bool.{both_ways}
 use Rattle.reach.proofs.walk.mark_reached.Goals as goal

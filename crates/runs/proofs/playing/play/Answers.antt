@@ -22,13 +22,13 @@ returns-in-Start g c =
     let p = c.args.planner.now in
     let given = c.in-Start.given in
     let started = subst (λ (ls : List Line). Starts g.C.Chooser.has g.C.Chooser.clears g.C.Chooser.puts g.C.Chooser.takes given.n ls given.aim p c.start.result c.start.new.self) c.deref.ensures.value c.start.ensures.starts in
-    let s = start_step g.C.Chooser.has g.C.Chooser.clears g.C.Chooser.puts g.C.Chooser.takes p c.start.new.self c.start.new.self c.args.call.now _ given (Ok c.tell-start.result) c.tell-start.result c.start.result started c.start.ensures.sound refl c.in-Start.is refl refl c.tell-start.ensures in
+    let s = start_step g.C.Chooser.has g.C.Chooser.clears g.C.Chooser.puts g.C.Chooser.takes p c.start.new.self c.start.new.self c.args.call.now _ given (Ok c.tell_start.result) c.tell_start.result c.start.result started c.start.ensures.sound refl c.in-Start.is refl refl c.tell_start.ensures in
     record { sound = s.sound; call = s.call; played = s.played; kept = s.kept; law = s.law }
 
 pub returns-in-Work : goal.returns-in-Work
 returns-in-Work g c =
     let p = c.args.planner.now in
-    let s = work_step g.C.Chooser.has g.C.Chooser.clears g.C.Chooser.puts g.C.Chooser.takes p c.work.new.self c.work.new.self c.args.call.now _ c.in-Work.number (Ok c.tell-work.result) c.tell-work.result c.work.result c.work.ensures.works c.work.ensures.sound refl c.in-Work.is refl refl c.tell-work.ensures in
+    let s = work_step g.C.Chooser.has g.C.Chooser.clears g.C.Chooser.puts g.C.Chooser.takes p c.work.new.self c.work.new.self c.args.call.now _ c.in-Work.number (Ok c.tell_work.result) c.tell_work.result c.work.result c.work.ensures.works c.work.ensures.sound refl c.in-Work.is refl refl c.tell_work.ensures in
     record { sound = s.sound; call = s.call; played = s.played; kept = s.kept; law = s.law }
 
 pub returns-in-Trial : goal.returns-in-Trial
@@ -37,44 +37,44 @@ returns-in-Trial g c =
     let given = c.in-Trial.given in
     let items = given.lines.items in
     let after = c.trial-tried.new.lines in
-    let back : after ≡ items = c.trial-tried.ensures.back ∙ c.deref-mut.ensures.value in
-    let whole : take given.lines.len (after ++ drop (length after) items) ≡ items = with_items_is given.lines after (c.trial-tried.auto.lines ∙ c.deref-mut.ensures.len) ∙ back in
-    let tried = subst (λ (ls : List Line). Trials g.C.Chooser.has g.C.Chooser.clears g.C.Chooser.puts g.C.Chooser.takes given.n ls given.aim c.in-Trial.line c.in-Trial.low c.in-Trial.high p c.trial-tried.result c.trial-tried.new.self) c.deref-mut.ensures.value c.trial-tried.ensures.trials in
-    let s = trial_step g.C.Chooser.has g.C.Chooser.clears g.C.Chooser.puts g.C.Chooser.takes p c.trial-tried.new.self c.trial-tried.new.self c.args.call.now _ given (record { n = given.n; lines = with_items given.lines after; aim = given.aim }) c.in-Trial.line c.in-Trial.low c.in-Trial.high (Ok c.tell-trial.result) c.tell-trial.result c.trial-tried.result tried c.trial-tried.ensures.sound refl c.in-Trial.is refl (record { n = refl; lines = whole; aim = refl }) refl c.tell-trial.ensures in
+    let back : after ≡ items = c.trial-tried.ensures.back ∙ c.deref_mut.ensures.value in
+    let whole : take given.lines.len (after ++ drop (length after) items) ≡ items = with_items_is given.lines after (c.trial-tried.auto.lines ∙ c.deref_mut.ensures.len) ∙ back in
+    let tried = subst (λ (ls : List Line). Trials g.C.Chooser.has g.C.Chooser.clears g.C.Chooser.puts g.C.Chooser.takes given.n ls given.aim c.in-Trial.line c.in-Trial.low c.in-Trial.high p c.trial-tried.result c.trial-tried.new.self) c.deref_mut.ensures.value c.trial-tried.ensures.trials in
+    let s = trial_step g.C.Chooser.has g.C.Chooser.clears g.C.Chooser.puts g.C.Chooser.takes p c.trial-tried.new.self c.trial-tried.new.self c.args.call.now _ given (record { n = given.n; lines = with_items given.lines after; aim = given.aim }) c.in-Trial.line c.in-Trial.low c.in-Trial.high (Ok c.tell_trial.result) c.tell_trial.result c.trial-tried.result tried c.trial-tried.ensures.sound refl c.in-Trial.is refl (record { n = refl; lines = whole; aim = refl }) refl c.tell_trial.ensures in
     record { sound = s.sound; call = s.call; played = s.played; kept = s.kept; law = s.law }
 
 pub returns-in-Flow : goal.returns-in-Flow
 returns-in-Flow g c =
     let p = c.args.planner.now in
-    let s = read_step g.C.Chooser.has g.C.Chooser.clears g.C.Chooser.puts g.C.Chooser.takes p p c.args.call.now _ (Flow c.in-Flow.line) (Ok c.read-flow.result) c.read-flow.result c.requires refl c.in-Flow.is refl refl tt c.read-flow.ensures in
+    let s = read_step g.C.Chooser.has g.C.Chooser.clears g.C.Chooser.puts g.C.Chooser.takes p p c.args.call.now _ (Flow c.in-Flow.line) (Ok c.read_flow.result) c.read_flow.result c.requires refl c.in-Flow.is refl refl tt c.read_flow.ensures in
     record { sound = s.sound; call = s.call; played = s.played; kept = s.kept; law = s.law }
 
 pub returns-in-Cut : goal.returns-in-Cut
 returns-in-Cut g c =
     let p = c.args.planner.now in
-    let s = read_step g.C.Chooser.has g.C.Chooser.clears g.C.Chooser.puts g.C.Chooser.takes p p c.args.call.now _ (Cut c.in-Cut.side c.in-Cut.room) (Ok c.read-cut.result) c.read-cut.result c.requires refl c.in-Cut.is refl refl tt c.read-cut.ensures in
+    let s = read_step g.C.Chooser.has g.C.Chooser.clears g.C.Chooser.puts g.C.Chooser.takes p p c.args.call.now _ (Cut c.in-Cut.side c.in-Cut.room) (Ok c.read_cut.result) c.read_cut.result c.requires refl c.in-Cut.is refl refl tt c.read_cut.ensures in
     record { sound = s.sound; call = s.call; played = s.played; kept = s.kept; law = s.law }
 
 pub returns-in-Hurdle : goal.returns-in-Hurdle
 returns-in-Hurdle g c =
     let p = c.args.planner.now in
-    let s = read_step g.C.Chooser.has g.C.Chooser.clears g.C.Chooser.puts g.C.Chooser.takes p p c.args.call.now _ (Hurdle c.in-Hurdle.room) (Ok c.read-hurdle.result) c.read-hurdle.result c.requires refl c.in-Hurdle.is refl refl tt c.read-hurdle.ensures in
+    let s = read_step g.C.Chooser.has g.C.Chooser.clears g.C.Chooser.puts g.C.Chooser.takes p p c.args.call.now _ (Hurdle c.in-Hurdle.room) (Ok c.read_hurdle.result) c.read_hurdle.result c.requires refl c.in-Hurdle.is refl refl tt c.read_hurdle.ensures in
     record { sound = s.sound; call = s.call; played = s.played; kept = s.kept; law = s.law }
 
 pub returns-in-Total : goal.returns-in-Total
 returns-in-Total g c =
     let p = c.args.planner.now in
-    let s = read_step g.C.Chooser.has g.C.Chooser.clears g.C.Chooser.puts g.C.Chooser.takes p p c.args.call.now c.args.call.now Total (Ok c.read-total.result) c.read-total.result c.requires refl c.in-Total.is c.in-Total.is refl tt c.read-total.ensures in
+    let s = read_step g.C.Chooser.has g.C.Chooser.clears g.C.Chooser.puts g.C.Chooser.takes p p c.args.call.now c.args.call.now Total (Ok c.read_total.result) c.read_total.result c.requires refl c.in-Total.is c.in-Total.is refl tt c.read_total.ensures in
     record { sound = s.sound; call = s.call; played = s.played; kept = s.kept; law = s.law }
 
 pub returns-in-Tallies : goal.returns-in-Tallies
 returns-in-Tallies g c =
     let p = c.args.planner.now in
-    let s = read_step g.C.Chooser.has g.C.Chooser.clears g.C.Chooser.puts g.C.Chooser.takes p p c.args.call.now c.args.call.now Tallies (Ok c.read-tallies.result) c.read-tallies.result c.requires refl c.in-Tallies.is c.in-Tallies.is refl tt c.read-tallies.ensures in
+    let s = read_step g.C.Chooser.has g.C.Chooser.clears g.C.Chooser.puts g.C.Chooser.takes p p c.args.call.now c.args.call.now Tallies (Ok c.read_tallies.result) c.read_tallies.result c.requires refl c.in-Tallies.is c.in-Tallies.is refl tt c.read_tallies.ensures in
     record { sound = s.sound; call = s.call; played = s.played; kept = s.kept; law = s.law }
 
 pub returns-in-Crossing : goal.returns-in-Crossing
 returns-in-Crossing g c =
     let p = c.args.planner.now in
-    let s = crossing_step g.C.Chooser.has g.C.Chooser.clears g.C.Chooser.puts g.C.Chooser.takes p c.args.call.now c.in-Crossing.side c.in-Crossing.room c.read-crossing.result c.requires c.in-Crossing.is c.read-crossing.ensures in
+    let s = crossing_step g.C.Chooser.has g.C.Chooser.clears g.C.Chooser.puts g.C.Chooser.takes p c.args.call.now c.in-Crossing.side c.in-Crossing.room c.read_crossing.result c.requires c.in-Crossing.is c.read_crossing.ensures in
     record { sound = s.sound; call = s.call; played = s.played; kept = s.kept; law = s.law }

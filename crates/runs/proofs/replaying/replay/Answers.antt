@@ -20,14 +20,14 @@ loop-i-init g c = (
   running_new g.C.Chooser.has g.C.Chooser.clears g.C.Chooser.puts g.C.Chooser.takes c.args.chooser c.new-planner.result c.new-planner.ensures.idle c.new-planner.ensures.sound,
 )
 
-pub returns-in-err-push : goal.returns-in-err-push
-returns-in-err-push g c =
+pub returns-in_err-push : goal.returns-in_err-push
+returns-in_err-push g c =
     let cs = c.args.script.now in
     let i = c.loop-i.i in
     let lt : i < length cs = omega (arith, c.loop-i-test.true, c.loop-i.auto.i-end) in
     let at : get_or c.loop-i.script i c.index-script-i.result ≡ get_or cs i Tallies = get_or_default c.loop-i.script i c.index-script-i.result Tallies (omega (arith, lt, c.loop-i.invariant.2.many)) ∙ c.loop-i.invariant.2.later i (omega arith) in
     let script = sofar_same cs _ _ (sofar_more cs c.loop-i.script i c.play.new.call lt c.loop-i.invariant.2 (subst (λ (x : Call). SameCall x c.play.new.call) at c.play.ensures.call)) in
-    let p = err_from_is_err_and c.from-residual-in-err-push.result c.from-residual-in-err-push.ensures.1 in
+    let p = err_from_is_err_and c.from_residual-in_err-push.result c.from_residual-in_err-push.ensures.1 in
     rw p.1 (record { script = script; long = tt; law = tt; promise = tt; played = tt })
 
 pub loop-i-preserved : goal.loop-i-preserved
@@ -36,11 +36,11 @@ loop-i-preserved g c =
     let i = c.loop-i.i in
     let lt : i < length cs = omega (arith, c.loop-i-test.true, c.loop-i.auto.i-end) in
     let at : get_or c.loop-i.script i c.index-script-i.result ≡ get_or cs i Tallies = get_or_default c.loop-i.script i c.index-script-i.result Tallies (omega (arith, lt, c.loop-i.invariant.2.many)) ∙ c.loop-i.invariant.2.later i (omega arith) in
-    let q = c.in-ok-push.ensures in
+    let q = c.in_ok-push.ensures in
     let p = c.loop-i.planner in
     let p' = c.play.new.planner in
-    let r = c.in-ok-answer.answer in
-    let t = c.in-ok-answer.ensures in (
+    let r = c.in_ok-answer.answer in
+    let t = c.in_ok-answer.ensures in (
       c.play.ensures.sound,
       omega (arith, q.len, c.loop-i.invariant.1),
       sofar_more cs c.loop-i.script i c.play.new.call lt c.loop-i.invariant.2 (subst (λ (x : Call). SameCall x c.play.new.call) at c.play.ensures.call),

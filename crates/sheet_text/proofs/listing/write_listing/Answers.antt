@@ -23,59 +23,59 @@ whole h ls ts r = let z : h.lines ≡ h.lines - 0 = omega arith in subst (λ (i 
 whole_told : (o : Result Content Decline) (h : Heading) (ls : List Line) (ts : List Trial) → o ≡ Ok (content h (take h.lines ls) ts) → o ≡ Ok (content h (take (h.lines - 0) ls) ts)
 whole_told o h ls ts e = let z : h.lines ≡ h.lines - 0 = omega arith in e ∙ ap (λ (i : ℕ). Ok (content h (take i ls) ts)) z
 
-pub returns-in-err-expect-room : goal.returns-in-err-expect-room
-returns-in-err-expect-room c =
-    let p = err_from_is_err_and c.from-residual-in-err-expect-room.result c.from-residual-in-err-expect-room.ensures.1 in
-    let e = c.in-err-expect-room.ensures in
-    rw (p.1, p.2) (short_listed c.args.out.now (checked c.args.file.now) _ _ c.in-ok-heading.ensures.told e.0 e.1)
+pub returns-in_err-expect_room : goal.returns-in_err-expect_room
+returns-in_err-expect_room c =
+    let p = err_from_is_err_and c.from_residual-in_err-expect_room.result c.from_residual-in_err-expect_room.ensures.1 in
+    let e = c.in_err-expect_room.ensures in
+    rw (p.1, p.2) (short_listed c.args.out.now (checked c.args.file.now) _ _ c.in_ok-heading.ensures.told e.0 e.1)
 
-pub returns-in-err-start : goal.returns-in-err-start
-returns-in-err-start c =
-    let h = c.in-ok-heading.heading in
-    let ls = c.read-checked.new.lines in
-    let r = whole h ls (items c.read-checked.new.waiting) c.in-ok-heading.ensures.ready.1 in
-    not_both (tested h.n (take (h.lines - 0) ls) c.number.result) h.aim _ (list_tested h.n c.number.result (take (h.lines - 0) ls) h.aim c.number.ensures r.list) c.in-err-start.ensures.starts.0
+pub returns-in_err-start : goal.returns-in_err-start
+returns-in_err-start c =
+    let h = c.in_ok-heading.heading in
+    let ls = c.read_checked.new.lines in
+    let r = whole h ls (items c.read_checked.new.waiting) c.in_ok-heading.ensures.ready.1 in
+    not_both (tested h.n (take (h.lines - 0) ls) c.number.result) h.aim _ (list_tested h.n c.number.result (take (h.lines - 0) ls) h.aim c.number.ensures r.list) c.in_err-start.ensures.starts.0
 
-pub list-hurdle-requires : goal.list-hurdle-requires
-list-hurdle-requires c =
-    let h = c.in-ok-heading.heading in
-    let ls = c.read-checked.new.lines in
-    let ts = items c.read-checked.new.waiting in
-    let r = whole h ls ts c.in-ok-heading.ensures.ready.1 in
-    let s = c.in-ok-settle.ensures in
+pub list_hurdle-requires : goal.list_hurdle-requires
+list_hurdle-requires c =
+    let h = c.in_ok-heading.heading in
+    let ls = c.read_checked.new.lines in
+    let ts = items c.read_checked.new.waiting in
+    let r = whole h ls ts c.in_ok-heading.ensures.ready.1 in
+    let s = c.in_ok-settle.ensures in
     record {
       settled = subst (λ (o : Outcome). Settles o c.settle.new.planner.state) c.in-Impossible.is s.settled;
-      asks = asks_told _ _ _ h (take (h.lines - 0) ls) ts c.number.result c.new-planner.result c.start.new.self c.settle.new.planner c.in-ok-start.ensures.starts s.sound s.plant c.number.ensures r.list;
+      asks = asks_told _ _ _ h (take (h.lines - 0) ls) ts c.number.result c.new-planner.result c.start.new.self c.settle.new.planner c.in_ok-start.ensures.starts s.sound s.plant c.number.ensures r.list;
       ready = r;
-      room = c.in-ok-expect-room.ensures;
+      room = c.in_ok-expect_room.ensures;
     }
 
-pub list-flow-requires : goal.list-flow-requires
-list-flow-requires c =
-    let h = c.in-ok-heading.heading in
-    let ls = c.read-checked.new.lines in
-    let ts = items c.read-checked.new.waiting in
-    let r = whole h ls ts c.in-ok-heading.ensures.ready.1 in
-    let s = c.in-ok-settle.ensures in
+pub list_flow-requires : goal.list_flow-requires
+list_flow-requires c =
+    let h = c.in_ok-heading.heading in
+    let ls = c.read_checked.new.lines in
+    let ts = items c.read_checked.new.waiting in
+    let r = whole h ls ts c.in_ok-heading.ensures.ready.1 in
+    let s = c.in_ok-settle.ensures in
     record {
-      settled = settled_flow c.in-ok-settle.field-0 c.settle.new.planner.state c.in-default.not-Impossible s.settled;
-      asks = asks_told _ _ _ h (take (h.lines - 0) ls) ts c.number.result c.new-planner.result c.start.new.self c.settle.new.planner c.in-ok-start.ensures.starts s.sound s.plant c.number.ensures r.list;
+      settled = settled_flow c.in_ok-settle.field-0 c.settle.new.planner.state c.in_default.not-Impossible s.settled;
+      asks = asks_told _ _ _ h (take (h.lines - 0) ls) ts c.number.result c.new-planner.result c.start.new.self c.settle.new.planner c.in_ok-start.ensures.starts s.sound s.plant c.number.ensures r.list;
       ready = r;
-      room = c.in-ok-expect-room.ensures;
+      room = c.in_ok-expect_room.ensures;
     }
 
 pub returns-in-Impossible : goal.returns-in-Impossible
 returns-in-Impossible c =
-    let h = c.in-ok-heading.heading in
-    let ls = c.read-checked.new.lines in
-    let ts = items c.read-checked.new.waiting in
-    let told = whole_told (checked c.args.file.now) h ls ts c.in-ok-heading.ensures.told in
-    all_listed c.args.out.now c.list-hurdle.new.out (checked c.args.file.now) (content h (take (h.lines - 0) ls) ts) c.list-hurdle.result told c.in-ok-expect-room.ensures c.list-hurdle.ensures
+    let h = c.in_ok-heading.heading in
+    let ls = c.read_checked.new.lines in
+    let ts = items c.read_checked.new.waiting in
+    let told = whole_told (checked c.args.file.now) h ls ts c.in_ok-heading.ensures.told in
+    all_listed c.args.out.now c.list_hurdle.new.out (checked c.args.file.now) (content h (take (h.lines - 0) ls) ts) c.list_hurdle.result told c.in_ok-expect_room.ensures c.list_hurdle.ensures
 
-pub returns-in-default : goal.returns-in-default
-returns-in-default c =
-    let h = c.in-ok-heading.heading in
-    let ls = c.read-checked.new.lines in
-    let ts = items c.read-checked.new.waiting in
-    let told = whole_told (checked c.args.file.now) h ls ts c.in-ok-heading.ensures.told in
-    all_listed c.args.out.now c.list-flow.new.out (checked c.args.file.now) (content h (take (h.lines - 0) ls) ts) c.list-flow.result told c.in-ok-expect-room.ensures c.list-flow.ensures
+pub returns-in_default : goal.returns-in_default
+returns-in_default c =
+    let h = c.in_ok-heading.heading in
+    let ls = c.read_checked.new.lines in
+    let ts = items c.read_checked.new.waiting in
+    let told = whole_told (checked c.args.file.now) h ls ts c.in_ok-heading.ensures.told in
+    all_listed c.args.out.now c.list_flow.new.out (checked c.args.file.now) (content h (take (h.lines - 0) ls) ts) c.list_flow.result told c.in_ok-expect_room.ensures c.list_flow.ensures

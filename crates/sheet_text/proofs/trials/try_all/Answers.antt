@@ -10,8 +10,8 @@ use Rattle.sheet_text.proofs.Kept.{each_set}
 use Rattle.sheet_text.proofs.Trying.{all_tried, next_passes, next_taken, next_tried, none_left}
 use Rattle.sheet_text.proofs.trials.try_all.Goals as goal
 
-pub try-one-requires : goal.try-one-requires
-try-one-requires c =
+pub try_one-requires : goal.try_one-requires
+try_one-requires c =
     let inv = c.loop-trial.invariant in
     let ts = items c.args.waiting.now in
     let t = next_taken ts c.loop-trial.count c.in-Some.trial (items c.take.new.self) (sym inv.2 ∙ c.in-Some.ensures.took) in
@@ -34,8 +34,8 @@ loop-trial-preserved c =
     let ts = items c.args.waiting.now in
     let h = c.args.heading.now in
     let k = c.loop-trial.count in
-    let r = c.in-ok-one.one in
-    let e = c.in-ok-one.ensures in
+    let r = c.in_ok-one.one in
+    let e = c.in_ok-one.ensures in
     let t = next_taken ts k c.in-Some.trial (items c.take.new.self) (sym inv.2 ∙ c.in-Some.ensures.took) in
     let room : k < length c.loop-trial.tried = omega (arith, t.0, c.requires.ready.few, c.requires.room, inv.4) in (
       e.sound,
@@ -53,6 +53,6 @@ returns c =
     let ts = items c.args.waiting.now in
     let h = c.args.heading.now in
     let P : Plant = record { junctions = h.n; lines = c.args.lines.now } in
-    let n : c.loop-trial.count ≡ length ts = none_left ts c.loop-trial.count (sym inv.2 ∙ c.in-default.ensures.took.0) inv.3 in
+    let n : c.loop-trial.count ≡ length ts = none_left ts c.loop-trial.count (sym inv.2 ∙ c.in_default.ensures.took.0) inv.3 in
     let all = all_tried h.aim P ts c.loop-trial.tried c.requires.ready.few (omega (arith, c.requires.ready.few, c.requires.room, inv.4)) (λ i j. inv.5 i (omega (arith, n))) in
     record { count = n; tried = subst (λ (k : ℕ). TriedAll h.aim P ts (take k c.loop-trial.tried) × SmallTrials (take k c.loop-trial.tried)) (sym n) all }

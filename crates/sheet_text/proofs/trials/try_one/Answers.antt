@@ -9,29 +9,29 @@ told y x h e = let f : y ≡ x = cc in omega arith
 none_told : (x : ℕ) → ◌≡◌ {A = Option ℕ} None (Some x) → x < 2 ^ 32
 none_told x e = absurd (let z : ◌≡◌ {A = ℕ} 0 1 = cc in omega arith)
 
-pub returns-in-err-trial : goal.returns-in-err-trial
-returns-in-err-trial c =
+pub returns-in_err-trial : goal.returns-in_err-trial
+returns-in_err-trial c =
     let a = c.args in
-    absurd (trial_never a.heading.now.n c.number.result a.trial.line a.trial.low a.trial.high a.lines.now a.heading.now.aim c.number.ensures c.requires.list c.requires.limits _ c.in-err-trial.ensures.trials.0)
+    absurd (trial_never a.heading.now.n c.number.result a.trial.line a.trial.low a.trial.high a.lines.now a.heading.now.aim c.number.ensures c.requires.list c.requires.limits _ c.in_err-trial.ensures.trials.0)
 
-pub returns-in-err-read-total : goal.returns-in-err-read-total
-returns-in-err-read-total c = absurd c.in-err-read-total.ensures
+pub returns-in_err-read_total : goal.returns-in_err-read_total
+returns-in_err-read_total c = absurd c.in_err-read_total.ensures
 
-pub returns-in-ok-read-total : goal.returns-in-ok-read-total
-returns-in-ok-read-total c =
+pub returns-in_ok-read_total : goal.returns-in_ok-read_total
+returns-in_ok-read_total c =
     let a = c.args in
-    let r = c.in-ok-trial.ensures in
-    let t = c.in-ok-read-total.ensures in
+    let r = c.in_ok-trial.ensures in
+    let t = c.in_ok-read_total.ensures in
     let best = flow_tried a.heading.now.n c.number.result a.trial.line a.trial.low a.trial.high a.lines.now a.heading.now.aim c.number.ensures c.requires.list c.requires.limits _ _ _
-    a.planner.now c.trial.new.self c.in-ok-trial.field-0 r.sound r.trials c.in-Flow.is c.in-ok-read-total.field-0 t.0 in
+    a.planner.now c.trial.new.self c.in_ok-trial.field-0 r.sound r.trials c.in-Flow.is c.in_ok-read_total.field-0 t.0 in
     let small = line_small a.heading.now.n c.number.result a.trial.line a.trial.low a.trial.high a.lines.now a.heading.now.aim c.number.ensures c.requires.list c.requires.limits in
-    record { sound = r.sound; back = r.back; tried = (record { line = refl; total = best }, (omega (arith, small), λ x e. told c.in-ok-read-total.field-0 x t.1 e)) }
+    record { sound = r.sound; back = r.back; tried = (record { line = refl; total = best }, (omega (arith, small), λ x e. told c.in_ok-read_total.field-0 x t.1 e)) }
 
-pub returns-in-default : goal.returns-in-default
-returns-in-default c =
+pub returns-in_default : goal.returns-in_default
+returns-in_default c =
     let a = c.args in
-    let r = c.in-ok-trial.ensures in
+    let r = c.in_ok-trial.ensures in
     let best = none_tried a.heading.now.n c.number.result a.trial.line a.trial.low a.trial.high a.lines.now a.heading.now.aim c.number.ensures c.requires.list c.requires.limits _ _ _
-    a.planner.now c.trial.new.self c.in-ok-trial.field-0 r.sound r.trials c.in-default.not-Flow in
+    a.planner.now c.trial.new.self c.in_ok-trial.field-0 r.sound r.trials c.in_default.not-Flow in
     let small = line_small a.heading.now.n c.number.result a.trial.line a.trial.low a.trial.high a.lines.now a.heading.now.aim c.number.ensures c.requires.list c.requires.limits in
     record { sound = r.sound; back = r.back; tried = (record { line = refl; total = best }, (omega (arith, small), λ x e. none_told x e)) }

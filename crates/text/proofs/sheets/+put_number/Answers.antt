@@ -12,8 +12,8 @@ put-requires t c = omega (arith, ap length (decimal_digit c.args.n c.if-n-lt10.t
 pub returns-then-n-lt10 : goal.returns-then-n-lt10
 returns-then-n-lt10 t c = same_text (sym (decimal_digit c.args.n c.if-n-lt10.true)) c.put.ensures
 
-pub put-number-at-requires : goal.put-number-at-requires
-put-number-at-requires t c = (omega arith, omega (arith, one_longer c.args.n (omega arith) (omega arith)))
+pub put_number-at-requires : goal.put_number-at-requires
+put_number-at-requires t c = (omega arith, omega (arith, one_longer c.args.n (omega arith) (omega arith)))
 
 pub put-requires-2 : goal.put-requires-2
 put-requires-2 t c = omega (arith, one_longer c.args.n (omega arith) (omega arith))
@@ -21,4 +21,4 @@ put-requires-2 t c = omega (arith, one_longer c.args.n (omega arith) (omega arit
 pub returns : goal.returns
 returns t c =
     same_text (sym (decimal_step c.args.n (omega arith) (omega arith)))
-    (then_puts c.put-number-at.ensures c.put-2.ensures (omega (arith, one_longer c.args.n (omega arith) (omega arith))))
+    (then_puts c.put_number-at.ensures c.put-2.ensures (omega (arith, one_longer c.args.n (omega arith) (omega arith))))

@@ -5,8 +5,8 @@ use Rattle.text.proofs.sheets.put_cut.Goals as goal
 pub put-at-requires : goal.put-at-requires
 put-at-requires c = omega (arith, simp length-append at c.requires)
 
-pub put-members-at-requires : goal.put-members-at-requires
-put-members-at-requires c = omega (arith, simp length-append at c.requires)
+pub put_members-at-requires : goal.put_members-at-requires
+put_members-at-requires c = omega (arith, simp length-append at c.requires)
 
 pub put-requires : goal.put-requires
 put-requires c = omega (arith, simp length-append at c.requires)
@@ -14,4 +14,4 @@ put-requires c = omega (arith, simp length-append at c.requires)
 pub returns : goal.returns
 returns c =
     let room = simp length-append at c.requires in
-    then_puts c.put-at.ensures (then_puts c.put-members-at.ensures c.put.ensures (omega arith)) (omega arith)
+    then_puts c.put-at.ensures (then_puts c.put_members-at.ensures c.put.ensures (omega arith)) (omega arith)

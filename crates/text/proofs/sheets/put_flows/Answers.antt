@@ -9,8 +9,8 @@ row flows i = flow_row i (get_or flows i 0)
 pub loop-line-init : goal.loop-line-init
 loop-line-init c = puts_nothing c.args.out.now c.args.start
 
-pub put-flow-at-requires : goal.put-flow-at-requires
-put-flow-at-requires c = omega (arith, reach (row c.args.flows.now) c.loop-line.line (length c.args.flows.now) (omega arith))
+pub put_flow-at-requires : goal.put_flow-at-requires
+put_flow-at-requires c = omega (arith, reach (row c.args.flows.now) c.loop-line.line (length c.args.flows.now) (omega arith))
 
 pub loop-line-preserved : goal.loop-line-preserved
-loop-line-preserved c = one_more_row (row c.args.flows.now) c.loop-line.line c.loop-line.invariant c.put-flow-at.ensures (omega (arith, reach (row c.args.flows.now) c.loop-line.line (length c.args.flows.now) (omega arith)))
+loop-line-preserved c = one_more_row (row c.args.flows.now) c.loop-line.line c.loop-line.invariant c.put_flow-at.ensures (omega (arith, reach (row c.args.flows.now) c.loop-line.line (length c.args.flows.now) (omega arith)))

@@ -10,8 +10,8 @@ row trials i = trial_row (get_or trials i nothing)
 pub loop-tried-init : goal.loop-tried-init
 loop-tried-init c = puts_nothing c.args.out.now c.args.start
 
-pub put-tried-at-requires : goal.put-tried-at-requires
-put-tried-at-requires c = omega (arith, reach (row c.args.trials.now) c.loop-tried.tried-index (length c.args.trials.now) (omega arith))
+pub put_tried-at-requires : goal.put_tried-at-requires
+put_tried-at-requires c = omega (arith, reach (row c.args.trials.now) c.loop-tried.tried-index (length c.args.trials.now) (omega arith))
 
 pub loop-tried-preserved : goal.loop-tried-preserved
-loop-tried-preserved c = one_more_row (row c.args.trials.now) c.loop-tried.tried-index c.loop-tried.invariant c.put-tried-at.ensures (omega (arith, reach (row c.args.trials.now) c.loop-tried.tried-index (length c.args.trials.now) (omega arith)))
+loop-tried-preserved c = one_more_row (row c.args.trials.now) c.loop-tried.tried-index c.loop-tried.invariant c.put_tried-at.ensures (omega (arith, reach (row c.args.trials.now) c.loop-tried.tried-index (length c.args.trials.now) (omega arith)))

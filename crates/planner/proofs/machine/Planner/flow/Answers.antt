@@ -9,12 +9,12 @@ pub returns-then-at-lines : goal.returns-then-at-lines
 returns-then-at-lines g c =
     let s = c.args.self.now in
     let n : s.count ≡ s.count - 0 = omega arith in
-    flow_declined (view s) (take (s.count - 0) s.lines) c.args.line (passed (test_flow s.state) c.in-ok-expect-flow.ensures)
+    flow_declined (view s) (take (s.count - 0) s.lines) c.args.line (passed (test_flow s.state) c.in_ok-expect_flow.ensures)
     (ap (λ (m : ℕ). arcs (take m s.lines)) n) c.if-at-lines.true
 
 pub returns : goal.returns
 returns g c =
     let s = c.args.self.now in
     let n : s.count ≡ s.count - 0 = omega arith in
-    flow_answered (view s) (take (s.count - 0) s.lines) c.args.line c.index-lines-at.result (passed (test_flow s.state) c.in-ok-expect-flow.ensures)
+    flow_answered (view s) (take (s.count - 0) s.lines) c.args.line c.index-lines-at.result (passed (test_flow s.state) c.in_ok-expect_flow.ensures)
     (ap (λ (m : ℕ). arcs (take m s.lines)) n) c.if-at-lines.false

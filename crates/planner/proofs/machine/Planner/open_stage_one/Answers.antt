@@ -16,7 +16,7 @@ begin-requires g c =
     let eS : c.first-stage.result.start ≡ n = k.0 ∙ v in
     let eT : c.first-stage.result.goal ≡ n + 1 = k.1 ∙ ap (λ (x : ℕ). x + 1) v in
     let eN : c.first-stage.result.junctions ≡ n + 2 = k.2 ∙ ap (λ (x : ℕ). x + 2) v in
-    let o = c.open-first-self in (
+    let o = c.open_first-self in (
       omega (arith, o.ensures.few),
       (
         balanced_at c.first-stage.result.junctions c.first-stage.result.start c.first-stage.result.goal (n + 2) n (n + 1) (first_arcs (plant_of h)) (arcs (take o.result o.new.held)) eN eS eT o.ensures.lines (first_begins (plant_of h) (sound_plant h)).balanced,
@@ -33,7 +33,7 @@ returns g c =
     let eS : c.first-stage.result.start ≡ n = k.0 ∙ v in
     let eT : c.first-stage.result.goal ≡ n + 1 = k.1 ∙ ap (λ (x : ℕ). x + 1) v in
     let eN : c.first-stage.result.junctions ≡ n + 2 = k.2 ∙ ap (λ (x : ℕ). x + 2) v in
-    let o = c.open-first-self in
+    let o = c.open_first-self in
     let b = c.begin in
     let r = opens_at g.C.Chooser.has g.C.Chooser.clears g.C.Chooser.puts g.C.Chooser.takes c.first-stage.result.junctions c.first-stage.result.start c.first-stage.result.goal (n + 2) n (n + 1) (first_arcs (plant_of h)) (arcs (take o.result o.new.held))
     c.args.self.now.chooser b.new.chooser (arcs (take o.result b.new.lines)) b.new.rows eN eS eT o.ensures.lines b.ensures.state b.ensures.puts b.ensures.tied in

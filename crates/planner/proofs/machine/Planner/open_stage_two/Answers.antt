@@ -7,8 +7,8 @@ use Rattle.planner.proofs.Moves.{at_one, balanced_at, opens_at, second_ends}
 use Rattle.planner.proofs.Questions.{one_lines, opens_lines, second_same, two_balanced}
 use Rattle.planner.proofs.machine.Planner.open_stage_two.Goals as goal
 
-pub open-second-self-requires : goal.open-second-self-requires
-open-second-self-requires g c =
+pub open_second-self-requires : goal.open_second-self-requires
+open_second-self-requires g c =
     let p = c.args.self.now in
     let one = at_one g.C.Chooser.has p c.requires.0 c.requires.1.0 in
     opens_lines (plant_of p.plant) p.lines p.count (one_lines p.plant (one_in p) p.one one.done)
@@ -18,7 +18,7 @@ begin-requires g c =
     let p = c.args.self.now in
     let one = at_one g.C.Chooser.has p c.requires.0 c.requires.1.0 in
     let P = plant_of p.plant in
-    let o = c.open-second-self in
+    let o = c.open_second-self in
     let aim = p.plant.aim in
     let n = p.plant.n in
     let k = second_ends c.aim.result c.junctions.result c.second-stage.result.start c.second-stage.result.goal c.second-stage.result.junctions c.second-stage.ensures in
@@ -40,7 +40,7 @@ returns g c =
     let p = c.args.self.now in
     let one = at_one g.C.Chooser.has p c.requires.0 c.requires.1.0 in
     let P = plant_of p.plant in
-    let o = c.open-second-self in
+    let o = c.open_second-self in
     let b = c.begin in
     let aim = p.plant.aim in
     let n = p.plant.n in

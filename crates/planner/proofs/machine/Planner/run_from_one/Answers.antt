@@ -6,12 +6,12 @@ use Rattle.planner.proofs.machine.Planner.run_from_one.Goals as goal
 
 pub returns : goal.returns
 returns g c =
-    let e = c.run-one-made.new.self in
-    let r = c.run-from-two-outcome in
+    let e = c.run_one-made.new.self in
+    let r = c.run_from_two-outcome in
     let q : Quiet e.plant.n (e.plant.n + 1) (one_in e).rows = search rules in
     let f : filled e.plant.n (arcs_in e) ≡ true = search rules in
     record {
-      runs = runs_through g.C.Chooser.has g.C.Chooser.clears g.C.Chooser.puts g.C.Chooser.takes c.args.self.now e c.open-stage-two.new.self r.new.self c.args.most c.run-one-made.result r.result.1 r.result.0
-          c.requires.1 c.run-one-made.ensures.ran q f c.open-stage-two.ensures.opened r.ensures.ran r.ensures.runs;
+      runs = runs_through g.C.Chooser.has g.C.Chooser.clears g.C.Chooser.puts g.C.Chooser.takes c.args.self.now e c.open_stage_two.new.self r.new.self c.args.most c.run_one-made.result r.result.1 r.result.0
+          c.requires.1 c.run_one-made.ensures.ran q f c.open_stage_two.ensures.opened r.ensures.ran r.ensures.runs;
       sound = r.ensures.sound;
     }

@@ -11,7 +11,7 @@ loop-held-init c v w = ap (λ (b : Bool). b || any (λ h. opens (arc h) v w) c.a
 pub loop-held-preserved : goal.loop-held-preserved
 loop-held-preserved c v w =
     any_more (λ h. opens (arc h) v w) c.args.lines.now c.loop-held.held-index c.held-item.result _ _ _ c.loop-held-test.true (c.loop-held.invariant v w)
-    (c.join-residuals.ensures v w ∙ ap (λ (h : HeldLine). opens (arc h) v w || tabled c.loop-held.graph.rows v w) c.held-item.is)
+    (c.join_residuals.ensures v w ∙ ap (λ (h : HeldLine). opens (arc h) v w || tabled c.loop-held.graph.rows v w) c.held-item.is)
 
 pub returns : goal.returns
 returns c v w =

@@ -1,4 +1,4 @@
-use Rattle.std.proofs.Common.{◌≡◌, ℕ, ◌+◌, ◌*◌, ◌≤◌, Bool, false, List, [], ◌∷◌, ◌++◌, length, get_or, take, sym, refl, ap, ◌∙◌, zero-add, arith, length-set}
+use Rattle.std.proofs.Common.{◌≡◌, ℕ, ◌*◌, Bool, false, List, [], ◌∷◌, ◌++◌, length, take, sym, refl, ap, ◌∙◌, zero-add, arith, length-set}
 use Rattle.plant.specs.Held.{marked}
 use Rattle.reach.specs.Sets.{bits_from, bytes_from, member, set_bytes}
 use Rattle.reach.proofs.Bytes.{bytes_more, member_set}
@@ -13,11 +13,11 @@ pub loop-i-preserved : goal.loop-i-preserved
 loop-i-preserved c =
     let S = marked c.args.marks.now in
     let i = c.loop-i.i in
-    let b = c.byte-of.result in (
+    let b = c.byte_of.result in (
       length-set c.loop-i.bytes i b ∙ c.loop-i.invariant.0,
       take_more_set c.loop-i.bytes i b (omega (arith, c.loop-i.invariant.0))
           ∙ ap (λ (xs : List ℕ). xs ++ (b ∷ [])) c.loop-i.invariant.1
-          ∙ ap (λ (x : ℕ). bytes_from S 0 i ++ (x ∷ [])) (c.byte-of.ensures ∙ ap (λ (x : ℕ). bits_from S x 8) (sym (zero-add (8 * i))))
+          ∙ ap (λ (x : ℕ). bytes_from S 0 i ++ (x ∷ [])) (c.byte_of.ensures ∙ ap (λ (x : ℕ). bits_from S x 8) (sym (zero-add (8 * i))))
           ∙ sym (bytes_more S 0 i),
     )
 
@@ -31,6 +31,6 @@ returns c =
     let S = marked c.args.marks.now in
     let e = made S c.loop-i.bytes c.loop-i.i (omega arith) c.loop-i.invariant.0 c.loop-i.invariant.1 in
     record {
-      members = λ v. ap (λ (xs : List ℕ). member xs v) e ∙ member_set S (λ w h. get_or_past c.args.marks.now w false (omega (arith, c.told_marks))) v;
+      members = λ v. ap (λ (xs : List ℕ). member xs v) e ∙ member_set S (λ w h. get_or_past c.args.marks.now w false (omega (arith, c.told-marks))) v;
       bytes = e;
     }

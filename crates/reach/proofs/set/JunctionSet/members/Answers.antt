@@ -11,8 +11,8 @@ loop-v-init c = (refl, refl, refl)
 pub bounds-out-count : goal.bounds-out-count
 bounds-out-count c = omega (arith, size_le (member c.args.self.now.bytes) c.loop-v.v, c.loop-v.invariant.1)
 
-pub overflow-add-count : goal.overflow-add-count
-overflow-add-count c = omega (arith, size_le (member c.args.self.now.bytes) c.loop-v.v, c.loop-v.invariant.1)
+pub overflow_add-count : goal.overflow_add-count
+overflow_add-count c = omega (arith, size_le (member c.args.self.now.bytes) c.loop-v.v, c.loop-v.invariant.1)
 
 pub loop-v-preserved : goal.loop-v-preserved
 loop-v-preserved c =

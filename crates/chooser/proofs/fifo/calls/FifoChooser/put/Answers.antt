@@ -10,31 +10,25 @@ free c =
     let s = c.args.self.now in
     omega (arith, s.counted, s.wide.0, ones_room s.member c.args.v (omega (arith, s.wide.0)) c.if-not-self-at.true)
 
-pub overflow-add-end : goal.overflow-add-end
-overflow-add-end c = omega (arith, free c, c.args.self.now.inside)
+pub overflow_add-end : goal.overflow_add-end
+overflow_add-end c = omega (arith, free c, c.args.self.now.inside)
 
-pub overflow-add-self : goal.overflow-add-self
-overflow-add-self c = omega (arith, free c)
+pub overflow_add-self : goal.overflow_add-self
+overflow_add-self c = omega (arith, free c)
 
-pub invariant-of-self : goal.invariant-of-self
-invariant-of-self c =
+pub invariant_of-self : goal.invariant_of-self
+invariant_of-self c =
     let s = c.args.self.now in
     let off = c.if-not-self-at.true in
     let small : c.args.v < length s.member = omega (arith, s.wide.0) in
-    let m = set s.member c.args.v true in (
-      (simp length-set s.wide.0, simp length-set s.wide.1),
-      (
-        s.inside,
-        (
-          omega (arith, s.counted, ones_on s.member c.args.v small off),
-          (
-            subst (λ (xs : List ℕ). Listed xs m) (sym (run_put s.ring s.head s.count c.args.v s.wide.1 (free c)))
-                (listed_put _ s.member c.args.v small off s.listed),
-            tt,
-          ),
-        ),
-      ),
-    )
+    let m = set s.member c.args.v true in
+    record {
+      wide = (simp length-set s.wide.0, simp length-set s.wide.1);
+      inside = s.inside;
+      counted = omega (arith, s.counted, ones_on s.member c.args.v small off);
+      listed = subst (λ (xs : List ℕ). Listed xs m) (sym (run_put s.ring s.head s.count c.args.v s.wide.1 (free c)))
+          (listed_put _ s.member c.args.v small off s.listed);
+    }
 
 pub returns-then-not-self-at : goal.returns-then-not-self-at
 returns-then-not-self-at c =

@@ -16,24 +16,18 @@ bounds-self-v c =
     let all = run_take s.ring s.head s.count s.inside (omega arith) in
     omega (arith, s.wide.0, flag_below s.member (get_or s.ring s.head 0) (listed_first _ _ _ s.member all s.listed))
 
-pub invariant-of-self : goal.invariant-of-self
-invariant-of-self c =
+pub invariant_of-self : goal.invariant_of-self
+invariant_of-self c =
     let s = c.args.self.now in
     let v = get_or s.ring s.head 0 in
     let all = run_take s.ring s.head s.count s.inside (omega arith) in
-    let on = listed_first _ _ _ s.member all s.listed in (
-      (simp length-set s.wide.0, s.wide.1),
-      (
-        omega arith,
-        (
-          omega (arith, s.counted, ones_off s.member v on),
-          (
-            listed_take [] _ s.member v on (flag_below s.member v on) (subst (λ (xs : List ℕ). Listed xs s.member) all s.listed),
-            tt,
-          ),
-        ),
-      ),
-    )
+    let on = listed_first _ _ _ s.member all s.listed in
+    record {
+      wide = (simp length-set s.wide.0, s.wide.1);
+      inside = omega arith;
+      counted = omega (arith, s.counted, ones_off s.member v on);
+      listed = listed_take [] _ s.member v on (flag_below s.member v on) (subst (λ (xs : List ℕ). Listed xs s.member) all s.listed);
+    }
 
 pub returns : goal.returns
 returns c =

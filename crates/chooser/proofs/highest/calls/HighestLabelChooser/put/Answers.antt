@@ -13,25 +13,21 @@ free c =
 pub bounds-self-self : goal.bounds-self-self
 bounds-self-self c = free c
 
-pub overflow-add-self : goal.overflow-add-self
-overflow-add-self c = omega (arith, free c)
+pub overflow_add-self : goal.overflow_add-self
+overflow_add-self c = omega (arith, free c)
 
-pub invariant-of-self : goal.invariant-of-self
-invariant-of-self c =
+pub invariant_of-self : goal.invariant_of-self
+invariant_of-self c =
     let s = c.args.self.now in
     let off = c.if-not-self-at.true in
     let small : c.args.v < length s.member = omega (arith, s.wide.0) in
-    let m = set s.member c.args.v true in (
-      (simp length-set s.wide.0, simp length-set s.wide.1, simp length-set s.wide.2),
-      (
-        omega (arith, s.counted, ones_on s.member c.args.v small off),
-        (
-          subst (λ (xs : List ℕ). Listed xs m) (sym (take_more_set s.order s.count c.args.v (omega (arith, free c, s.wide.2))))
-              (listed_put _ s.member c.args.v small off s.listed),
-          tt,
-        ),
-      ),
-    )
+    let m = set s.member c.args.v true in
+    record {
+      wide = (simp length-set s.wide.0, simp length-set s.wide.1, simp length-set s.wide.2);
+      counted = omega (arith, s.counted, ones_on s.member c.args.v small off);
+      listed = subst (λ (xs : List ℕ). Listed xs m) (sym (take_more_set s.order s.count c.args.v (omega (arith, free c, s.wide.2))))
+          (listed_put _ s.member c.args.v small off s.listed);
+    }
 
 pub returns-then-not-self-at : goal.returns-then-not-self-at
 returns-then-not-self-at c =

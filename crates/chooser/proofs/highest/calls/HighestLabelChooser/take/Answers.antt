@@ -38,8 +38,8 @@ bounds-self-v c =
     let q = c.best-at.result in
     omega (arith, s.wide.0, flag_below s.member (get_or s.order q 0) (on_at s q c.best-at.ensures.within))
 
-pub invariant-of-self : goal.invariant-of-self
-invariant-of-self c =
+pub invariant_of-self : goal.invariant_of-self
+invariant_of-self c =
     let s = c.args.self.now in
     let q = c.best-at.result in
     let v = get_or s.order q 0 in
@@ -47,17 +47,13 @@ invariant-of-self c =
     let on = on_at s q within in
     let e = c.close.ensures in
     let left = closed s.order c.close.new.order s.count q within (fits s) c.close.auto.order e.before e.after in
-    let whole = subst (λ (xs : List ℕ). Listed xs s.member) (splits s.order s.count q within (fits s)) s.listed in (
-      (simp length-set s.wide.0, s.wide.1, c.close.auto.order ∙ s.wide.2),
-      (
-        omega (arith, s.counted, ones_off s.member v on),
-        (
-          subst (λ (xs : List ℕ). Listed xs (set s.member v false)) (sym left)
-              (listed_take (take q (take s.count s.order)) _ s.member v on (flag_below s.member v on) whole),
-          tt,
-        ),
-      ),
-    )
+    let whole = subst (λ (xs : List ℕ). Listed xs s.member) (splits s.order s.count q within (fits s)) s.listed in
+    record {
+      wide = (simp length-set s.wide.0, s.wide.1, c.close.auto.order ∙ s.wide.2);
+      counted = omega (arith, s.counted, ones_off s.member v on);
+      listed = subst (λ (xs : List ℕ). Listed xs (set s.member v false)) (sym left)
+          (listed_take (take q (take s.count s.order)) _ s.member v on (flag_below s.member v on) whole);
+    }
 
 pub returns : goal.returns
 returns c =
