@@ -9,5 +9,6 @@ pub mod Moves
 pub mod Runs
 pub mod Laws
 pub mod Shown
+pub mod Seen
 pub mod Tried
 pub mod Trying

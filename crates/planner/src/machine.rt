@@ -23,7 +23,7 @@ pub enum State {
 
 /// A planner with the chooser that it was made with.
 #[derive(Drop)]
-pub struct Planner<C: Chooser> {
+pub struct Planner<C> {
     chooser: C,
     plant: HeldPlant,
     lines: [HeldLine; HELD_LINES],

@@ -7,7 +7,7 @@ ghost use Rattle.planner.specs.Cuts.{CutSet, HurdleSet};
 ghost use Rattle.planner.specs.Readings.{CrossingRead, CrossingSeen, CutRead, CutSeen, CutShown, Facts, HurdleRead, HurdleSeen, HurdleShown, PutSet, flow_answer, tallies_answer, test_flow, test_hurdle, total_answer};
 ghost use Rattle.planner.specs.Standing.{Sound, WithinLimits};
 ghost use Rattle.planner.specs.Views.{view};
-ghost use Rattle.reach.specs.Marking.{Marks as Just-marks};
+ghost use Rattle.reach.specs.Marking.{Marks as JustMarks};
 
 use super::super::answer::{Side, Tally};
 use super::{Planner, State};
@@ -17,7 +17,7 @@ use reach::{Adjacency, Graph, JunctionSet, Reversed, mark_reached};
 
 // Marks of the junctions below `n` that the graph reaches from `from`; the marks from `n` on say nothing.
 fn reached<G: Graph>(graph: &G, n: u8, from: u8) -> Marks
-    ensures { Just-marks (edge graph.now) n from result }
+    ensures { JustMarks (G.edge graph.now) n from result }
 {
     let mut marks = [false; 256];
     let mut places = [0u8; 256];

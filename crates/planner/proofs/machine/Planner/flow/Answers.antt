@@ -3,18 +3,28 @@ use Rattle.plant.specs.Held.{arcs}
 use Rattle.planner.specs.Readings.{test_flow}
 use Rattle.planner.specs.Views.{view}
 use Rattle.planner.proofs.Answering.{flow_answered, flow_declined, passed}
+use Rattle.planner.proofs.Shown.{facts}
 use Rattle.planner.proofs.machine.Planner.flow.Goals as goal
 
-pub returns-then-at-lines : goal.returns-then-at-lines
-returns-then-at-lines g c =
+pub returns-then-at-lines-clause-answer : goal.returns-then-at-lines-clause-answer
+returns-then-at-lines-clause-answer g c =
     let s = c.args.self.now in
     let n : s.count ≡ s.count - 0 = omega arith in
     flow_declined (view s) (take (s.count - 0) s.lines) c.args.line (passed (test_flow s.state) c.in_ok-expect_flow.ensures)
     (ap (λ (m : ℕ). arcs (take m s.lines)) n) c.if-at-lines.true
 
-pub returns : goal.returns
-returns g c =
+pub returns-clause-answer : goal.returns-clause-answer
+returns-clause-answer g c =
     let s = c.args.self.now in
     let n : s.count ≡ s.count - 0 = omega arith in
     flow_answered (view s) (take (s.count - 0) s.lines) c.args.line c.index-lines-at.result (passed (test_flow s.state) c.in_ok-expect_flow.ensures)
     (ap (λ (m : ℕ). arcs (take m s.lines)) n) c.if-at-lines.false
+
+pub returns-in_err-expect_flow-clause-facts : goal.returns-in_err-expect_flow-clause-facts
+returns-in_err-expect_flow-clause-facts g c = facts g.C.Chooser.has c.args.self.now
+
+pub returns-then-at-lines-clause-facts : goal.returns-then-at-lines-clause-facts
+returns-then-at-lines-clause-facts g c = facts g.C.Chooser.has c.args.self.now
+
+pub returns-clause-facts : goal.returns-clause-facts
+returns-clause-facts g c = facts g.C.Chooser.has c.args.self.now
