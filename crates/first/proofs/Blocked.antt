@@ -1,6 +1,6 @@
 -- Where stage one ends and a line from n is not full: what residuals reach from n is the worst hurdle.
 use Rattle.std.proofs.Common.{◌≡◌, ℕ, zero, suc, ◌+◌, ◌-◌, ◌<◌, true, false, ltb, ◌⊎◌, List, sym, refl, ap, ◌∙◌, subst, inl, inr, arith}
-use Rattle.std.specs.List.{ContainsAt as Has}
+use Rattle.std.specs.List.{ContainsAt}
 use Rattle.std.proofs.ByRecursion.{all-has}
 use Rattle.std.proofs.lemmas.Bool.{and_parts, and_from, lt-ltb, ltb-true, cases_lt}
 use Rattle.plant.specs.declared.line.Line.{Line}
@@ -37,7 +37,7 @@ over_residual n a v w s q e = elim (lies n v a s) [
   ]
 ]
 
-over_on : (n s : ℕ) (ls : List Arc) (a : Arc) (v w : ℕ) → SoundArc n a → Has ls a → Over a v w → Reach ls s v → Reach ls s w
+over_on : (n s : ℕ) (ls : List Arc) (a : Arc) (v w : ℕ) → SoundArc n a → ContainsAt ls a → Over a v w → Reach ls s v → Reach ls s w
 over_on n s ls a v w so h (ahead p q l) r = elim (lies n v a so) [
   | inl d ↦ states.on r a h (omega (arith, d.room)) (sym q ∙ sym d.end)
   | inr o ↦ elim o [ inl d ↦ absurd (d.far p) | inr d ↦ absurd (d.here p) ]
@@ -67,7 +67,7 @@ module _ (P : Plant) (ls : List Arc) (sound : Sound P) (first : FirstFlow P ls) 
   F = back_flow P ls r.x
 
   -- an arc for each residual
-  residual_arc : (v w : ℕ) → Residual Q F v w → (a : Arc) × Has ls a × Over a v w
+  residual_arc : (v w : ℕ) → Residual Q F v w → (a : Arc) × ContainsAt ls a × Over a v w
   residual_arc v w (more zero j p q h) =
       let b = r.back_arc in
       (b.0, b.1, ahead (same_from b.2 ∙ p) (same_to b.2 ∙ q) (omega (arith, b.3, ap high_of b.2)))

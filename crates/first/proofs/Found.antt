@@ -1,6 +1,6 @@
 -- A balanced flow of stage one as numbers within the plant's limits, and what waits where.
 use Rattle.std.proofs.Common.{◌≡◌, ℕ, zero, suc, ◌+◌, ◌-◌, ◌<◌, ◌≤◌, true, false, not, ◌&&◌, eqb, ltb, List, [], ◌∷◌, length, refl, ap, ◌∙◌, inl, inr, arith}
-use Rattle.std.specs.List.{ContainsAt as Has, AllByRecursion as All}
+use Rattle.std.specs.List.{ContainsAt, AllByRecursion}
 use Rattle.std.proofs.ByRecursion.{all-has, All-from_get_or}
 use Rattle.std.proofs.lemmas.List.{length-map}
 use Rattle.std.proofs.lemmas.Bool.{cases_lt, and_parts, and_cases, and_from, eq-eqb, eqb-true, lt-ltb, ltb-true, not-true, not-false, both_ways}
@@ -19,7 +19,7 @@ use Rattle.first.proofs.Reading.{same_from, Reading, reading, back_flow, second_
 
 -- ---- whether every line from n is full
 -- one that is not
-pub unfilled : (n : ℕ) (ls : List Arc) → filled n ls ≡ false → (a : Arc) × Has ls a × (a.line.from ≡ n) × (a.flow < high_of a.line)
+pub unfilled : (n : ℕ) (ls : List Arc) → filled n ls ≡ false → (a : Arc) × ContainsAt ls a × (a.line.from ≡ n) × (a.flow < high_of a.line)
 unfilled n [] e = let z : ◌≡◌ {A = ℕ} 0 1 = cc in absurd (omega arith)
 unfilled n (a ∷ ls) e = elim (and_cases (not (eqb a.line.from n && ltb a.flow (high_of a.line))) (filled n ls) e) [
   | inl f ↦
@@ -28,7 +28,7 @@ unfilled n (a ∷ ls) e = elim (and_cases (not (eqb a.line.from n && ltb a.flow 
   | inr f ↦ let r = unfilled n ls f in (r.0, (suc r.1.0, omega (arith, r.1.1), r.1.2), r.2, r.3)
 ]
 
-full : (n : ℕ) (ls : List Arc) → filled n ls ≡ true → All (λ a. a.line.from ≡ n → high_of a.line ≤ a.flow) ls
+full : (n : ℕ) (ls : List Arc) → filled n ls ≡ true → AllByRecursion (λ a. a.line.from ≡ n → high_of a.line ≤ a.flow) ls
 full n [] e = tt
 full n (a ∷ ls) e =
     let t = and_parts (not (eqb a.line.from n && ltb a.flow (high_of a.line))) (filled n ls) e in (
@@ -41,7 +41,7 @@ full n (a ∷ ls) e =
 
 -- ---- the flow of the plant with a line back
 module _ (P : Plant) (ls : List Arc) (sound : Sound P) (first : FirstFlow P ls) (r : Reading P ls) where
-  pub arc_sound : (a : Arc) → Has ls a → SoundArc (P.junctions + 2) a
+  pub arc_sound : (a : Arc) → ContainsAt ls a → SoundArc (P.junctions + 2) a
   arc_sound a h = all-has (SoundArc (P.junctions + 2)) ls a first.balanced.lines h
 
   pub back_within : Within (with_back P) (back_flow P ls r.x)

@@ -1,7 +1,7 @@
 -- The lines of stage one: sound, and how many and how large they are.
 use Rattle.std.proofs.Common.{◌≡◌, ℕ, zero, suc, ◌+◌, ◌-◌, ◌<◌, ◌≤◌, Bool, true, false, cond, eqb, ltb, List, [], ◌∷◌, ◌++◌, map, length, get_or, sym, refl, ap, ◌∙◌, inl, inr, arith}
 use borrow.Author.Differences.{up, down}
-use Rattle.std.specs.List.{AllByRecursion as All}
+use Rattle.std.specs.List.{AllByRecursion}
 use Rattle.std.proofs.ByRecursion.{All-append, All-from_get_or, All-map, All-weaker}
 use Rattle.std.proofs.lemmas.List.{length-append, length-map}
 use Rattle.std.proofs.lemmas.Int.{ints}
@@ -50,7 +50,7 @@ surplus_kind n ls v = rw (up_is ls v, down_is ls v) (go (lows_in ls v) (lows_out
     ]
 
 -- what holds of the lines for each junction holds of all
-all_surplus : (Q : Line → Type 0) (n : ℕ) (ls : List Line) (m : ℕ) → ((v : ℕ) (xs : List Line) → v < m → Surplus n ls v xs → All Q xs) → All Q (surplus_lines n ls m)
+all_surplus : (Q : Line → Type 0) (n : ℕ) (ls : List Line) (m : ℕ) → ((v : ℕ) (xs : List Line) → v < m → Surplus n ls v xs → AllByRecursion Q xs) → AllByRecursion Q (surplus_lines n ls m)
 all_surplus Q n ls zero h = tt
 all_surplus Q n ls (suc m) h =
     All-append Q (surplus_lines n ls m) (surplus_line n ls m) (all_surplus Q n ls m (λ v xs j. h v xs (omega arith))) (h m (surplus_line n ls m) (omega arith) (surplus_kind n ls m))
@@ -60,12 +60,12 @@ record FirstLine (n : ℕ) (l : Line) : Type 0 where
   sound : SoundLine (n + 2) l
   no_low : low_of l ≡ 0
 
-surplus_sound : (n : ℕ) (ls : List Line) (v : ℕ) (xs : List Line) → v < n → Surplus n ls v xs → All (FirstLine n) xs
+surplus_sound : (n : ℕ) (ls : List Line) (v : ℕ) (xs : List Line) → v < n → Surplus n ls v xs → AllByRecursion (FirstLine n) xs
 surplus_sound n ls v xs j (source h) = (record { sound = record { from_in = omega arith; to_in = omega arith; apart = λ e. omega arith; ordered = omega arith }; no_low = refl }, tt)
 surplus_sound n ls v xs j (sink h) = (record { sound = record { from_in = omega arith; to_in = omega arith; apart = λ e. omega arith; ordered = omega arith }; no_low = refl }, tt)
 surplus_sound n ls v xs j (same e) = tt
 
-first_sound : (P : Plant) → Sound P → All (FirstLine P.junctions) (first_lines P)
+first_sound : (P : Plant) → Sound P → AllByRecursion (FirstLine P.junctions) (first_lines P)
 first_sound P sound =
     let n = P.junctions in
     let ls = P.lines in
@@ -148,15 +148,15 @@ surplus_highs n ls zero = omega arith
 surplus_highs n ls (suc m) =
     omega (arith, summed_append every high_of (surplus_lines n ls m) (surplus_line n ls m), surplus_highs n ls m, surplus_high n ls m (surplus_line n ls m) (surplus_kind n ls m))
 
-shifted_highs : (n : ℕ) (ls : List Line) → All (SoundLine n) ls → summed every high_of (map shifted ls) + summed every low_of ls ≡ summed every high_of ls
+shifted_highs : (n : ℕ) (ls : List Line) → AllByRecursion (SoundLine n) ls → summed every high_of (map shifted ls) + summed every low_of ls ≡ summed every high_of ls
 shifted_highs n [] s = refl
 shifted_highs n (l ∷ ls) s = omega (arith, s.0.ordered, shifted_highs n ls s.1)
 
-shifted_each : (b : ℕ) (ls : List Line) → summed every high_of ls ≤ b → All (λ l. high_of l ≤ b) (map shifted ls)
+shifted_each : (b : ℕ) (ls : List Line) → summed every high_of ls ≤ b → AllByRecursion (λ l. high_of l ≤ b) (map shifted ls)
 shifted_each b [] h = tt
 shifted_each b (l ∷ ls) h = (omega arith, shifted_each b ls (omega arith))
 
-surplus_each : (n b : ℕ) (ls : List Line) → summed every low_of ls ≤ b → (v : ℕ) (xs : List Line) → Surplus n ls v xs → All (λ l. high_of l ≤ b) xs
+surplus_each : (n b : ℕ) (ls : List Line) → summed every low_of ls ≤ b → (v : ℕ) (xs : List Line) → Surplus n ls v xs → AllByRecursion (λ l. high_of l ≤ b) xs
 surplus_each n b ls h v xs (source l) = (omega (arith, summed_every (ends v) low_of ls), tt)
 surplus_each n b ls h v xs (sink l) = (omega (arith, summed_every (leaves v) low_of ls), tt)
 surplus_each n b ls h v xs (same e) = tt

@@ -1,6 +1,6 @@
 -- The arcs of stage one, part by part: the plant's, the line back, and those of the junctions.
 use Rattle.std.proofs.Common.{◌≡◌, ℕ, zero, suc, ◌+◌, ◌-◌, ◌<◌, ◌≤◌, Bool, true, false, cond, eqb, ◌⊎◌, List, [], ◌∷◌, ◌++◌, map, length, get_or, drop, sym, refl, ap, ◌∙◌, subst, inl, inr, arith}
-use Rattle.std.specs.List.{ContainsAt as Has, AllByRecursion as All}
+use Rattle.std.specs.List.{ContainsAt, AllByRecursion}
 use Rattle.std.proofs.ByRecursion.{All-append, All-weaker, has_append_left, has_append_right}
 use Rattle.std.proofs.lemmas.Bool.{cases_eq, eq-eqb, ne_eqb, cond-true, cond-false}
 use Rattle.plant.specs.declared.line.Line.{Line}
@@ -14,10 +14,10 @@ use Rattle.stage.specs.First.{shifted, added_line, back_line, surplus_line, surp
 use Rattle.stage.proofs.Cuts.{carries}
 use Rattle.first.proofs.Network.{lows_in, lows_out, Surplus, source, sink, same, surplus_kind}
 
-has_later : (x : Arc) (xs : List Arc) (a : Arc) → Has xs a → Has (x ∷ xs) a
+has_later : (x : Arc) (xs : List Arc) (a : Arc) → ContainsAt xs a → ContainsAt (x ∷ xs) a
 has_later x xs a h = (suc h.0, omega (arith, h.1), h.2)
 
-has_drop : (k : ℕ) (xs : List Arc) (a : Arc) → Has (drop k xs) a → Has xs a
+has_drop : (k : ℕ) (xs : List Arc) (a : Arc) → ContainsAt (drop k xs) a → ContainsAt xs a
 has_drop zero xs a h = h
 has_drop (suc k) [] a h = h
 has_drop (suc k) (x ∷ xs) a h = has_later x xs a (has_drop k xs a h)
@@ -52,7 +52,7 @@ second_lines [] rest ls e = refl
 second_lines (l ∷ ks) rest [] e = clash (shifted l) (map shifted ks ++ rest) e
 second_lines (l ∷ ks) rest (a ∷ ls) e = ap (λ k. l ∷ k) (second_lines ks rest ls (cc))
 
-pub second_sound : (n m : ℕ) (ks rest : List Line) (ls : List Arc) → Front ks rest ls → All (SoundLine n) ks → All (SoundArc m) ls → All (SoundArc n) (second_arcs ks ls)
+pub second_sound : (n m : ℕ) (ks rest : List Line) (ls : List Arc) → Front ks rest ls → AllByRecursion (SoundLine n) ks → AllByRecursion (SoundArc m) ls → AllByRecursion (SoundArc n) (second_arcs ks ls)
 second_sound n m [] rest ls e s t = tt
 second_sound n m (l ∷ ks) rest [] e s t = tt
 second_sound n m (l ∷ ks) rest (a ∷ ls) e s t =
@@ -61,7 +61,7 @@ second_sound n m (l ∷ ks) rest (a ∷ ls) e s t =
       second_sound n m ks rest ls (cc) s.1 t.1,
     )
 
-front_all : (Q : Arc → Type 0) (ks rest : List Line) (ls : List Arc) → Front ks rest ls → ((k : ℕ) (a : Arc) → Own ks (flows_of (second_arcs ks ls)) k a → Q a) → All Q (drop (length ks) ls) → All Q ls
+front_all : (Q : Arc → Type 0) (ks rest : List Line) (ls : List Arc) → Front ks rest ls → ((k : ℕ) (a : Arc) → Own ks (flows_of (second_arcs ks ls)) k a → Q a) → AllByRecursion Q (drop (length ks) ls) → AllByRecursion Q ls
 front_all Q [] rest ls e h r = r
 front_all Q (l ∷ ks) rest [] e h r = tt
 front_all Q (l ∷ ks) rest (a ∷ ls) e h r = (
@@ -69,7 +69,7 @@ front_all Q (l ∷ ks) rest (a ∷ ls) e h r = (
   front_all Q ks rest ls (cc) (λ k b o. h (suc k) b (record { inside = omega arith; is = o.is; flow = o.flow })) r,
 )
 
-front_at : (ks rest : List Line) (ls : List Arc) → Front ks rest ls → (k : ℕ) → k < length ks → (a : Arc) × Has ls a × Own ks (flows_of (second_arcs ks ls)) k a
+front_at : (ks rest : List Line) (ls : List Arc) → Front ks rest ls → (k : ℕ) → k < length ks → (a : Arc) × ContainsAt ls a × Own ks (flows_of (second_arcs ks ls)) k a
 front_at [] rest ls e k j = absurd (omega arith)
 front_at (l ∷ ks) rest [] e k j = clash (shifted l) (map shifted ks ++ rest) e
 front_at (l ∷ ks) rest (a ∷ ls) e zero j = (a, (0, omega arith, λ d. refl), record { inside = j; is = cc; flow = refl })
@@ -111,9 +111,9 @@ record One (n : ℕ) (ks : List Line) (m : ℕ) (right : List Arc) : Type 0 wher
   y : ℕ
   coming : (u : ℕ) → u < n → come right u ≡ cond (eqb m u) x 0
   going : (u : ℕ) → u < n → gone right u ≡ cond (eqb m u) y 0
-  kinds : All (λ a. Source n ks m x a ⊎ Sink n ks m y a) right
-  source_arc : lows_out ks m < lows_in ks m → (a : Arc) × Has right a × Source n ks m x a
-  sink_arc : lows_in ks m < lows_out ks m → (a : Arc) × Has right a × Sink n ks m y a
+  kinds : AllByRecursion (λ a. Source n ks m x a ⊎ Sink n ks m y a) right
+  source_arc : lows_out ks m < lows_in ks m → (a : Arc) × ContainsAt right a × Source n ks m x a
+  sink_arc : lows_in ks m < lows_out ks m → (a : Arc) × ContainsAt right a × Sink n ks m y a
   no_x : lows_in ks m ≤ lows_out ks m → x ≡ 0
   no_y : lows_out ks m ≤ lows_in ks m → y ≡ 0
 
@@ -176,9 +176,9 @@ one n ks m right xs j (same h) e =
 
 -- the arcs of the junctions below m; each carries what they bring its junction or take from it
 pub record Surpluses (n : ℕ) (ks : List Line) (m : ℕ) (ss : List Arc) : Type 0 where
-  pub kinds : All (λ a. (u : ℕ) × (u < m) × (Source n ks u (come ss u) a ⊎ Sink n ks u (gone ss u) a)) ss
-  pub source_arc : (u : ℕ) → u < m → lows_out ks u < lows_in ks u → (a : Arc) × Has ss a × Source n ks u (come ss u) a
-  pub sink_arc : (u : ℕ) → u < m → lows_in ks u < lows_out ks u → (a : Arc) × Has ss a × Sink n ks u (gone ss u) a
+  pub kinds : AllByRecursion (λ a. (u : ℕ) × (u < m) × (Source n ks u (come ss u) a ⊎ Sink n ks u (gone ss u) a)) ss
+  pub source_arc : (u : ℕ) → u < m → lows_out ks u < lows_in ks u → (a : Arc) × ContainsAt ss a × Source n ks u (come ss u) a
+  pub sink_arc : (u : ℕ) → u < m → lows_in ks u < lows_out ks u → (a : Arc) × ContainsAt ss a × Sink n ks u (gone ss u) a
   pub no_come : (u : ℕ) → u < n → (u < m → lows_in ks u ≤ lows_out ks u) → come ss u ≡ 0
   pub no_gone : (u : ℕ) → u < n → (u < m → lows_out ks u ≤ lows_in ks u) → gone ss u ≡ 0
 
@@ -224,7 +224,7 @@ next n ks m left right j s o =
           (m, omega arith, elim k [ inl r ↦ inl (source-new a r) | inr r ↦ inr (sink-new a r) ])) right o.kinds);
       source_arc = λ u i h. elim (cases_eq u m) [
         | inl e ↦
-            let G : ℕ → Type 0 = λ v. (a : Arc) × Has ss a × Source n ks v (come ss v) a in
+            let G : ℕ → Type 0 = λ v. (a : Arc) × ContainsAt ss a × Source n ks v (come ss v) a in
             let r = o.source_arc (omega (arith, ap (lows_in ks) e, ap (lows_out ks) e)) in
             subst G (sym e) (r.0, has_append_right left right r.0 r.1, source-new r.0 r.2)
         | inr q ↦
@@ -233,7 +233,7 @@ next n ks m left right j s o =
       ];
       sink_arc = λ u i h. elim (cases_eq u m) [
         | inl e ↦
-            let G : ℕ → Type 0 = λ v. (a : Arc) × Has ss a × Sink n ks v (gone ss v) a in
+            let G : ℕ → Type 0 = λ v. (a : Arc) × ContainsAt ss a × Sink n ks v (gone ss v) a in
             let r = o.sink_arc (omega (arith, ap (lows_in ks) e, ap (lows_out ks) e)) in
             subst G (sym e) (r.0, has_append_right left right r.0 r.1, sink-new r.0 r.2)
         | inr q ↦
@@ -280,10 +280,10 @@ pub record Reading (P : Plant) (ls : List Arc) : Type 0 where
   pub x : ℕ
   pub ss : List Arc
   pub surplus_arcs : Surpluses P.junctions P.lines P.junctions ss
-  pub kinds : All (Kind P ls x ss) ls
-  pub later : (a : Arc) → Has ss a → Has ls a
-  pub own_arc : (k : ℕ) → k < length P.lines → (a : Arc) × Has ls a × Own P.lines (flows_of (second_arcs P.lines ls)) k a
-  pub back_arc : (a : Arc) × Has ls a × (a.line ≡ back_line P.lines) × (a.flow ≡ x)
+  pub kinds : AllByRecursion (Kind P ls x ss) ls
+  pub later : (a : Arc) → ContainsAt ss a → ContainsAt ls a
+  pub own_arc : (k : ℕ) → k < length P.lines → (a : Arc) × ContainsAt ls a × Own P.lines (flows_of (second_arcs P.lines ls)) k a
+  pub back_arc : (a : Arc) × ContainsAt ls a × (a.line ≡ back_line P.lines) × (a.flow ≡ x)
   pub coming : (u : ℕ) → come ls u + lows_in P.lines u ≡ inflow (with_back P) (back_flow P ls x) u + come ss u
   pub going : (u : ℕ) → gone ls u + lows_out P.lines u ≡ outflow (with_back P) (back_flow P ls x) u + gone ss u
 
@@ -302,14 +302,14 @@ reading P ls e = go (drop (length P.lines) ls) refl (front_rest P.lines (back_li
           x = b.flow;
           ss = ss;
           surplus_arcs = sur;
-          kinds = front_all (Kind P ls b.flow ss) ks rest ls e (λ k a o. own k o) (subst (All (Kind P ls b.flow ss)) (sym d) (
+          kinds = front_all (Kind P ls b.flow ss) ks rest ls e (λ k a o. own k o) (subst (AllByRecursion (Kind P ls b.flow ss)) (sym d) (
             back is refl,
             All-weaker (λ a. (u : ℕ) × (u < n) × (Source n ks u (come ss u) a ⊎ Sink n ks u (gone ss u) a)) (Kind P ls b.flow ss) (λ a k.
                 elim k.2 [ inl r ↦ from_start k.0 k.1 r | inr r ↦ to_goal k.0 k.1 r ]) ss sur.kinds,
           ));
-          later = λ a h. has_drop (length ks) ls a (subst (λ (zs : List Arc). Has zs a) (sym d) (has_later b ss a h));
+          later = λ a h. has_drop (length ks) ls a (subst (λ (zs : List Arc). ContainsAt zs a) (sym d) (has_later b ss a h));
           own_arc = front_at ks rest ls e;
-          back_arc = (b, has_drop (length ks) ls b (subst (λ (zs : List Arc). Has zs b) (sym d) (0, omega arith, λ d. refl)), is, refl);
+          back_arc = (b, has_drop (length ks) ls b (subst (λ (zs : List Arc). ContainsAt zs b) (sym d) (0, omega arith, λ d. refl)), is, refl);
           coming = λ u. omega (arith, front_carries (ends u) (λ l. refl) ks rest ls e, ap (carries (ends u)) d, ap (λ (l : Line). cond (eqb l.to u) b.flow 0) is);
           going = λ u. omega (arith, front_carries (leaves u) (λ l. refl) ks rest ls e, ap (carries (leaves u)) d, ap (λ (l : Line). cond (eqb l.from u) b.flow 0) is);
         }

@@ -1,6 +1,6 @@
 -- How the end of stage one over a plant is read.
 use Rattle.std.specs.Prelude.{◌≡◌, ℕ, zero, suc, ◌+◌, ◌*◌, ◌<◌, ◌≤◌, true, false, cond, ◌↔◌, List, length, ◌==◌}
-use Rattle.std.specs.List.{AllByRecursion as All}
+use Rattle.std.specs.List.{AllByRecursion}
 use Rattle.plant.specs.declared.line.Line.{Line}
 use Rattle.plant.specs.Plants.{Plant, Flow, Junctions, Sound, Feasible, WorstHurdle, summed, every, leaves, ends, low_of, high_of}
 use Rattle.plant.specs.Held.{Arc, lines_of, flows_of}
@@ -39,7 +39,7 @@ FirstBegins = (P : Plant) → Sound P → FirstFlow P (first_arcs P)
 pub record FirstSize (P : Plant) : Type 0 where
   pub count : length (first_lines P) ≡ length P.lines + 1 + uneven P.lines P.junctions
   pub few : uneven P.lines P.junctions ≤ P.junctions
-  pub each : All (λ l. high_of l ≤ summed every high_of P.lines) (first_lines P)
+  pub each : AllByRecursion (λ l. high_of l ≤ summed every high_of P.lines) (first_lines P)
   pub sum : summed every high_of (first_lines P) ≤ 3 * summed every high_of P.lines
 
 -- Stage one has a line for each line of the plant, one back, and one for each uneven junction, and no high is beyond the sum of the plant's.
@@ -49,7 +49,7 @@ FirstCount = (P : Plant) → Sound P → FirstSize P
 -- the plant's lines with the flow found, low added
 pub record SecondArcs (P : Plant) (ls : List Arc) : Type 0 where
   pub lines : lines_of (second_arcs P.lines ls) ≡ P.lines
-  pub limits : All (SoundArc P.junctions) (second_arcs P.lines ls)
+  pub limits : AllByRecursion (SoundArc P.junctions) (second_arcs P.lines ls)
   pub feasible : filled P.junctions ls ≡ true → Feasible P (flows_of (second_arcs P.lines ls))
 
 -- A balanced flow of stage one gives numbers within the plant's limits, and where every line from n is full they are feasible.

@@ -12,7 +12,6 @@ use Rattle.stage.specs.Model.{State}
 use Rattle.cuts.specs.Theorems.{Outward}
 use Rattle.first.specs.Theorems.{Blocked, FirstEnded}
 use Rattle.first.proofs.Blocked.{first_blocked}
-use Rattle.planner.specs.declared.answer.Outcome.TheVariants.{Flow}
 use Rattle.planner.specs.declared.answer.Tally.{Tally}
 use Rattle.planner.specs.declared.machine.Planner.{Planner}
 use Rattle.planner.specs.declared.machine.State as mode

@@ -1,6 +1,5 @@
 -- Marks kept below a bound, and the sets that they stand for.
 use Rattle.std.proofs.Common.{◌≡◌, ℕ, ◌+◌, ◌-◌, ◌<◌, ◌≤◌, Bool, true, false, not, ◌&&◌, ltb, List, length, get_or, set, replicate, sym, ap, ◌∙◌, subst, ⊎_elim, arith, get_or-set_other, get_or-set_same}
-use lib.ListN.{length-replicate}
 use Rattle.plant.specs.declared.aim.Aim.{Aim}
 use Rattle.plant.specs.Held.{Arc, marked}
 use Rattle.plant.specs.Plants.{Junctions}

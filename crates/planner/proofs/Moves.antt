@@ -6,7 +6,7 @@ use Rattle.std.proofs.lemmas.Bool.{both_ways}
 use Rattle.plant.specs.declared.aim.Aim.{Aim}
 use Rattle.plant.specs.declared.aim.Aim.TheVariants.{Greatest, Least}
 use Rattle.plant.specs.declared.held.HeldLine.{HeldLine}
-use Rattle.plant.specs.Held.{Arc, arcs}
+use Rattle.plant.specs.Held.{Arc}
 use Rattle.stage.specs.declared.Row.{Row}
 use Rattle.stage.specs.Model.{State, active, begin_puts, begun}
 use Rattle.stage.specs.Runs.{SetLike, Tied}
@@ -14,7 +14,7 @@ use Rattle.stage.specs.States.{Balanced}
 use Rattle.stage.proofs.Ties.{stays_tied}
 use Rattle.preflow.specs.Choosers.{Filled, Puts, Takes}
 use Rattle.preflow.specs.Running.{RanOut}
-use Rattle.preflow.specs.Stages.{Ends, Stands, state}
+use Rattle.preflow.specs.Stages.{Ends, Stands}
 use Rattle.planner.specs.declared.answer.Tally.{Tally}
 use Rattle.planner.specs.declared.machine.Planner.{Planner}
 use Rattle.planner.specs.declared.machine.State as mode

@@ -1,5 +1,5 @@
 -- The numbers of the lines that lead out of a set, line by line.
-use Rattle.std.proofs.Common.{◌≡◌, ℕ, suc, ◌+◌, ◌<◌, ◌≤◌, Bool, true, false, cond, List, [], ◌∷◌, ◌++◌, length, get_or, take, set, sym, refl, ap, ◌∙◌, arith}
+use Rattle.std.proofs.Common.{◌≡◌, ℕ, suc, ◌+◌, ◌<◌, ◌≤◌, Bool, true, false, cond, List, [], ◌∷◌, ◌++◌, length, get_or, take, set, sym, ap, ◌∙◌, arith}
 use Rattle.plant.specs.declared.line.Line.{Line}
 use Rattle.plant.specs.Plants.{Junctions, crossing, leads_out, no_line}
 use Rattle.std.proofs.lemmas.List.{append-nil, length_push, length-take-le, take_more, take_more_set}

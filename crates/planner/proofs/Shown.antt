@@ -1,6 +1,5 @@
 -- What a sound planner shows: best flows, the extreme cuts, the worst hurdle.
-use Rattle.std.proofs.Common.{◌≡◌, ℕ, ◌+◌, Bool, None, Option, sym, refl, subst, arith}
-use Rattle.plant.specs.declared.decline.Decline.{Decline}
+use Rattle.std.proofs.Common.{◌≡◌, ℕ, ◌+◌, Bool, None, refl, arith}
 use Rattle.plant.specs.Held.{flows_of}
 use Rattle.plant.specs.Plants.{Junctions}
 use Rattle.cuts.proofs.Bests.{far_largest, near_smallest}

@@ -1,5 +1,5 @@
 -- Paths over residual edges, and paths of residuals over arcs.
-use Rattle.std.proofs.Common.{◌≡◌, ℕ, ◌+◌, ◌-◌, ◌<◌, Bool, true, false, cond, ◌&&◌, eqb, ltb, List, length, get_or, sym, ap, ◌∙◌, subst, ⊎_elim, arith}
+use Rattle.std.proofs.Common.{◌≡◌, ℕ, ◌+◌, ◌-◌, ◌<◌, true, false, cond, ◌&&◌, eqb, ltb, List, get_or, sym, ap, ◌∙◌, subst, ⊎_elim, arith}
 use Rattle.plant.specs.Held.{Arc, other, residual}
 use Rattle.plant.specs.Plants.{Junctions, high_of, low_of, no_line}
 use Rattle.reach.proofs.Tables.{any_at, any_from}
@@ -9,7 +9,7 @@ use Rattle.stage.specs.States.{Reach, SoundArc}
 use Rattle.stage.specs.States as stage
 use Rattle.std.proofs.ByRecursion.{all-has, All-weaker, has_get_or}
 use Rattle.std.proofs.lemmas.Bool.{and_from, and_parts, both_ways, cases_Bool, cond-false, cond-true, eq-eqb, eqb-true, lt-ltb, ltb-true, or_cases, or_left, or_right}
-use Rattle.std.specs.List.{ContainsAt as Has, AllByRecursion as All}
+use Rattle.std.specs.List.{ContainsAt, AllByRecursion}
 use Rattle.planner.specs.Cuts.{HurdleSet}
 
 no_arc : Arc
@@ -33,7 +33,7 @@ at_to : (v : ℕ) (a : Arc) → eqb a.line.from v ≡ false → (residual v a �
 at_to v a e = (cond-false (eqb a.line.from v) (onward a) (back v a) e, cond-false (eqb a.line.from v) a.line.to a.line.from e)
 
 -- one step over an arc
-step : (as' : List Arc) (from v w : ℕ) (a : Arc) → Has as' a → opens a v w ≡ true → Reach as' from v → Reach as' from w
+step : (as' : List Arc) (from v w : ℕ) (a : Arc) → ContainsAt as' a → opens a v w ≡ true → Reach as' from v → Reach as' from w
 step as' from v w a has o r =
     ⊎_elim
     (λ (q : can_rise a v w ≡ true).
@@ -92,7 +92,7 @@ other_in m v a h =
     (cases_Bool (eqb a.line.from v))
 
 -- and back, where all ends are below m
-pub from_reach : (as' : List Arc) (m from : ℕ) → All (EndsIn m) as' → from < m → {w : ℕ} → Reach as' from w → Reaches (residual_edge as') m from w
+pub from_reach : (as' : List Arc) (m from : ℕ) → AllByRecursion (EndsIn m) as' → from < m → {w : ℕ} → Reach as' from w → Reaches (residual_edge as') m from w
 from_reach as' m from ends h stage.here = here h
 from_reach as' m from ends h (stage.on {w = v} {x = w} r a has p e) =
     let edge : residual_edge as' v (other v a) ≡ true =
@@ -100,7 +100,7 @@ from_reach as' m from ends h (stage.on {w = v} {x = w} r a has p e) =
     on v w (from_reach as' m from ends h r) (omega (arith, e, other_in m v a (all-has (EndsIn m) as' a ends has))) (ap (λ (x : ℕ). residual_edge as' v x) e ∙ edge)
 
 -- the hurdle's members are what a path over arcs reaches from n
-pub hurdle_reach : (n : ℕ) (as' : List Arc) (S : Junctions) → All (EndsIn (n + 2)) as' → HurdleSet n as' S → (v : ℕ)
+pub hurdle_reach : (n : ℕ) (as' : List Arc) (S : Junctions) → AllByRecursion (EndsIn (n + 2)) as' → HurdleSet n as' S → (v : ℕ)
     → (S v ≡ true → (v < n) × Reach as' n v) × (v < n → S v ≡ false → Reach as' n v → ⊥)
 hurdle_reach n as' S ends s v = (
   λ t. (((s v).0 t).0, to_reach as' (n + 2) n ((s v).0 t).1),
@@ -108,5 +108,5 @@ hurdle_reach n as' S ends s v = (
 )
 
 -- sound arcs have their ends below m
-pub sound_ends : (m : ℕ) (as' : List Arc) → All (SoundArc m) as' → All (EndsIn m) as'
+pub sound_ends : (m : ℕ) (as' : List Arc) → AllByRecursion (SoundArc m) as' → AllByRecursion (EndsIn m) as'
 sound_ends m as' all = All-weaker (SoundArc m) (EndsIn m) (λ a s. (s.sound.from_in, s.sound.to_in)) as' all

@@ -3,7 +3,7 @@ use Rattle.std.proofs.Common.{◌≡◌, ℕ, ◌+◌, ◌*◌, ◌/◌, ◌%◌
 use Rattle.std.proofs.str.Laws.{order}
 use Rattle.std.proofs.ByRecursion.{All-get_or}
 use Rattle.std.proofs.lemmas.List.{drop_all, drop_more}
-use Rattle.std.specs.List.{flat_map, AllByRecursion as All}
+use Rattle.std.specs.List.{flat_map, AllByRecursion}
 use Rattle.plant.specs.declared.aim.Aim.{Aim}
 use Rattle.plant.specs.declared.aim.Aim.TheVariants.{Greatest, Least}
 use Rattle.plant.specs.declared.decline.Decline.{Decline}
@@ -43,7 +43,7 @@ ten_is o ten =
     cut : (k : ℕ) {rest : List ℕ} → k < length o → drop (k + 1) o ≡ rest → drop k o ≡ get_or o k 0 ∷ rest
     cut k lt e = drop_more o k 0 lt ∙ ap (λ (l : List ℕ). get_or o k 0 ∷ l) e
 
-module _ (o : List ℕ) (ten : Ten o) (bytes : All Byte o) where
+module _ (o : List ℕ) (ten : Ten o) (bytes : AllByRecursion Byte o) where
   byte : (k : ℕ) → k < 10 → get_or o k 0 < 256
   byte k lt = All-get_or Byte o k 0 (omega arith) bytes
 
@@ -65,46 +65,46 @@ line_from o = record { from = get_or o 0 0; to = get_or o 1 0; low = word32 o 2;
 abbrev trial_from : List ℕ → Trial
 trial_from o = record { line = word16 o 0; low = word32 o 2; high = word32 o 6 }
 
-line_again : (o : List ℕ) → Ten o → All Byte o → lettered 76 o ≡ line_bytes (line_from o)
+line_again : (o : List ℕ) → Ten o → AllByRecursion Byte o → lettered 76 o ≡ line_bytes (line_from o)
 line_again o ten bytes =
     let x = four_at o ten bytes 2 (omega arith) in
     let y = four_at o ten bytes 6 (omega arith) in
     ap (λ (l : List ℕ). 76 ∷ l) (ten_is o ten) ∙ (λ i. 76 ∷ get_or o 0 0 ∷ get_or o 1 0 ∷ (sym x i ++ sym y i))
 
-line_fits : (o : List ℕ) → Ten o → All Byte o → FitsLine (line_from o)
+line_fits : (o : List ℕ) → Ten o → AllByRecursion Byte o → FitsLine (line_from o)
 line_fits o ten bytes = (byte o ten bytes 0 (omega arith), byte o ten bytes 1 (omega arith), small o ten bytes 2 (omega arith), small o ten bytes 6 (omega arith))
 
-trial_again : (o : List ℕ) → Ten o → All Byte o → lettered 84 o ≡ trial_bytes (trial_from o)
+trial_again : (o : List ℕ) → Ten o → AllByRecursion Byte o → lettered 84 o ≡ trial_bytes (trial_from o)
 trial_again o ten bytes =
     let w = two_is (get_or o 0 0) (get_or o 1 0) (byte o ten bytes 0 (omega arith)) (byte o ten bytes 1 (omega arith)) in
     let x = four_at o ten bytes 2 (omega arith) in
     let y = four_at o ten bytes 6 (omega arith) in
     ap (λ (l : List ℕ). 84 ∷ l) (ten_is o ten) ∙ (λ i. 84 ∷ (sym w i ++ (sym x i ++ sym y i)))
 
-trial_fits : (o : List ℕ) → Ten o → All Byte o → FitsTrial (trial_from o)
+trial_fits : (o : List ℕ) → Ten o → AllByRecursion Byte o → FitsTrial (trial_from o)
 trial_fits o ten bytes =
     let a = byte o ten bytes 0 (omega arith) in
     let b = byte o ten bytes 1 (omega arith) in
     (omega arith, small o ten bytes 2 (omega arith), small o ten bytes 6 (omega arith))
 
-all_left : {X : Type 0} (P : X → Type 0) (xs ys : List X) → All P (xs ++ ys) → All P xs
+all_left : {X : Type 0} (P : X → Type 0) (xs ys : List X) → AllByRecursion P (xs ++ ys) → AllByRecursion P xs
 all_left P [] ys h = tt
 all_left P (x ∷ xs) ys h = (h.0, all_left P xs ys h.1)
 
-all_right : {X : Type 0} (P : X → Type 0) (xs ys : List X) → All P (xs ++ ys) → All P ys
+all_right : {X : Type 0} (P : X → Type 0) (xs ys : List X) → AllByRecursion P (xs ++ ys) → AllByRecursion P ys
 all_right P [] ys h = h
 all_right P (x ∷ xs) ys h = all_right P xs ys h.1
 
 -- commands of one letter are what is written of what they say
-module _ {X : Type 0} (letter : ℕ) (put : X → List ℕ) (from : List ℕ → X) (Fits : X → Type 0) (again : (o : List ℕ) → Ten o → All Byte o → lettered letter o ≡ put (from o)) (fits : (o : List ℕ) → Ten o → All Byte o → Fits (from o)) where
-  all_again : (os : List (List ℕ)) → All Ten os → All Byte (flat_map (lettered letter) os) → flat_map (lettered letter) os ≡ flat_map put (map from os)
+module _ {X : Type 0} (letter : ℕ) (put : X → List ℕ) (from : List ℕ → X) (Fits : X → Type 0) (again : (o : List ℕ) → Ten o → AllByRecursion Byte o → lettered letter o ≡ put (from o)) (fits : (o : List ℕ) → Ten o → AllByRecursion Byte o → Fits (from o)) where
+  all_again : (os : List (List ℕ)) → AllByRecursion Ten os → AllByRecursion Byte (flat_map (lettered letter) os) → flat_map (lettered letter) os ≡ flat_map put (map from os)
   all_again [] ten bytes = refl
   all_again (o ∷ os) ten bytes =
       let here = again o ten.0 (all_left Byte o (flat_map (lettered letter) os) bytes.1) in
       let on = all_again os ten.1 (all_right Byte o (flat_map (lettered letter) os) bytes.1) in
       λ i. here i ++ on i
 
-  all_fit : (os : List (List ℕ)) → All Ten os → All Byte (flat_map (lettered letter) os) → All Fits (map from os)
+  all_fit : (os : List (List ℕ)) → AllByRecursion Ten os → AllByRecursion Byte (flat_map (lettered letter) os) → AllByRecursion Fits (map from os)
   all_fit [] ten bytes = tt
   all_fit (o ∷ os) ten bytes = (fits o ten.0 (all_left Byte o (flat_map (lettered letter) os) bytes.1), all_fit os ten.1 (all_right Byte o (flat_map (lettered letter) os) bytes.1))
 
@@ -126,7 +126,7 @@ clash whole c d p q = let z : ◌≡◌ {A = ℕ} 0 1 = cc in omega arith
 
 -- a file that reads as a content has at most 64 trials
 module _ (n : ℕ) (whole : Result Content Decline) (c : Content) (reads : whole ≡ Ok c) where
-  few_trials : (ls : List Line) (ts more : List Trial) (rest : List ℕ) → length ts ≤ 64 → All FitsTrial more → Gives n ls ts (flat_map trial_bytes more ++ rest) whole → length ts + length more ≤ 64
+  few_trials : (ls : List Line) (ts more : List Trial) (rest : List ℕ) → length ts ≤ 64 → AllByRecursion FitsTrial more → Gives n ls ts (flat_map trial_bytes more ++ rest) whole → length ts + length more ≤ 64
   few_trials ls ts [] rest few fit h = omega arith
   few_trials ls ts (t ∷ more) rest few fit h =
       let here = rw append_assoc at h in
@@ -153,7 +153,7 @@ writes_again bs c bytes o reads =
     let x = o.last in
     let ls = map line_from o.ls in
     let ts = map trial_from o.ts in
-    let all : All Byte ((78 ∷ n ∷ []) ++ (L ++ (T ++ x ∷ []))) = subst (All Byte) o.is bytes in
+    let all : AllByRecursion Byte ((78 ∷ n ∷ []) ++ (L ++ (T ++ x ∷ []))) = subst (AllByRecursion Byte) o.is bytes in
     let in-L = all_left Byte L (T ++ x ∷ []) all.1.1 in
     let in-T = all_left Byte T (x ∷ []) (all_right Byte L (T ++ x ∷ []) all.1.1) in
     let a = all_again 76 line_bytes line_from FitsLine line_again line_fits o.ls o.ls_ten in-L in
@@ -175,7 +175,7 @@ module _ {X : Type 0} (letter : ℕ) (put : X → List ℕ) (of-letter : (x : X)
   operands : List X → List (List ℕ)
   operands xs = map (λ x. drop 1 (put x)) xs
 
-  each_ten : (xs : List X) → All Ten (operands xs)
+  each_ten : (xs : List X) → AllByRecursion Ten (operands xs)
   unfolding operands
   each_ten [] = tt
   each_ten (x ∷ xs) = (ten x, each_ten xs)

@@ -1,7 +1,7 @@
 -- Reading back what was written.
 use Rattle.std.proofs.Common.{◌≡◌, ℕ, ◌+◌, ◌*◌, ◌/◌, ◌%◌, ◌^◌, ◌<◌, ◌≤◌, false, eqb, List, [], ◌∷◌, ◌++◌, length, drop, Ok, Err, Result, sym, refl, ◌∙◌, append_assoc, append-nil, arith, length-append, le-ltb, lt-ltb, ne_eqb}
 use native.Mathlib.Nat.{div-div-eq-div-mul}
-use Rattle.std.specs.List.{flat_map, AllByRecursion as All}
+use Rattle.std.specs.List.{flat_map, AllByRecursion}
 use Rattle.plant.specs.declared.aim.Aim.{Aim}
 use Rattle.plant.specs.declared.aim.Aim.TheVariants.{Greatest, Least}
 use Rattle.plant.specs.declared.decline.Decline.{Decline}
@@ -60,14 +60,14 @@ aim_first Least t = refl
 
 -- all lines, and all trials
 module _ (n : ℕ) (whole : Result Content Decline) where
-  pub lines_read : (ls more : List Line) (ts : List Trial) (rest : List ℕ) → All FitsLine more → Gives n ls ts (flat_map line_bytes more ++ rest) whole → Gives n (ls ++ more) ts rest whole
+  pub lines_read : (ls more : List Line) (ts : List Trial) (rest : List ℕ) → AllByRecursion FitsLine more → Gives n ls ts (flat_map line_bytes more ++ rest) whole → Gives n (ls ++ more) ts rest whole
   lines_read ls [] ts rest fit h = rw append-nil h
   lines_read ls (l ∷ more) ts rest fit h =
       let here = rw append_assoc at h in
       let on = draw_given here (line_first l (flat_map line_bytes more ++ rest) (length ts) fit.0) refl refl refl in
       rw append_assoc at (lines_read (ls ++ l ∷ []) more ts rest fit.1 on)
 
-  pub trials_read : (ls : List Line) (ts more : List Trial) (rest : List ℕ) → length ts + length more ≤ 64 → All FitsTrial more → Gives n ls ts (flat_map trial_bytes more ++ rest) whole → Gives n ls (ts ++ more) rest whole
+  pub trials_read : (ls : List Line) (ts more : List Trial) (rest : List ℕ) → length ts + length more ≤ 64 → AllByRecursion FitsTrial more → Gives n ls ts (flat_map trial_bytes more ++ rest) whole → Gives n ls (ts ++ more) rest whole
   trials_read ls ts [] rest few fit h = rw append-nil h
   trials_read ls ts (t ∷ more) rest few fit h =
       let here = rw append_assoc at h in

@@ -1,7 +1,7 @@
 -- What passes the tests fits its bytes.
 use Rattle.std.proofs.Common.{◌≡◌, ℕ, ◌≤◌, Bool, true, false, ◌||◌, ltb, leb, List, [], ◌∷◌, length, Some, None, Ok, Err, Option, Result, sym, refl, ap, ◌∙◌, arith, ltb-false, leb-false}
 use Rattle.std.proofs.ByRecursion.{All-from_get_or}
-use Rattle.std.specs.List.{AllByRecursion as All}
+use Rattle.std.specs.List.{AllByRecursion}
 use Rattle.plant.proofs.Tested.{passed}
 use Rattle.plant.specs.Fine.{Fine}
 use Rattle.plant.specs.Plants.{no_line}
@@ -47,7 +47,7 @@ both_pass : (o on : Option Decline) → then_test o on ≡ None → (o ≡ None)
 both_pass None on e = (refl, e)
 both_pass (Some d) on e = absurd (let z : ◌≡◌ {A = ℕ} 0 1 = cc in omega arith)
 
-fit_trials : (m : ℕ) (ts : List Trial) → m ≤ 1000 → test_each m ts ≡ None → All FitsTrial ts
+fit_trials : (m : ℕ) (ts : List Trial) → m ≤ 1000 → test_each m ts ≡ None → AllByRecursion FitsTrial ts
 fit_trials m [] few e = tt
 fit_trials m (t ∷ ts) few e =
     let p = both_pass (test_trial m t.line t.low t.high) (test_each m ts) e in

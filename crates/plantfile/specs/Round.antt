@@ -1,6 +1,6 @@
 -- Reading what was written, and writing what was read.
 use Rattle.std.specs.Prelude.{◌≡◌, ℕ, ◌^◌, ◌<◌, ◌≤◌, List, [], ◌∷◌, ◌++◌, length, Some, Ok}
-use Rattle.std.specs.List.{flat_map, AllByRecursion as All}
+use Rattle.std.specs.List.{flat_map, AllByRecursion}
 use Rattle.plant.specs.Tests.{aim_numbered}
 use Rattle.plant.specs.declared.aim.Aim.{Aim}
 use Rattle.plant.specs.declared.line.Line.{Line}
@@ -18,8 +18,8 @@ FitsTrial t = (t.line < 2 ^ 16) × (t.low < 2 ^ 32) × (t.high < 2 ^ 32)
 -- each number fits its bytes, and there are at most 64 trials
 pub record Writable (c : Content) : Type 0 where
   pub junctions : c.junctions < 256
-  pub lines : All FitsLine c.lines
-  pub trials : All FitsTrial c.trials
+  pub lines : AllByRecursion FitsLine c.lines
+  pub trials : AllByRecursion FitsTrial c.trials
   pub few : length c.trials ≤ 64
 
 -- what was written reads back as it was
@@ -46,8 +46,8 @@ pub record InOrder (bs : List ℕ) : Type 0 where
   pub ls : List (List ℕ)
   pub ts : List (List ℕ)
   pub last : ℕ
-  pub ls_ten : All Ten ls
-  pub ts_ten : All Ten ts
+  pub ls_ten : AllByRecursion Ten ls
+  pub ts_ten : AllByRecursion Ten ts
   pub is : bs ≡ (78 ∷ junctions ∷ []) ++ (flat_map (lettered 76) ls ++ (flat_map (lettered 84) ts ++ last ∷ []))
 
 abbrev pub Byte : ℕ → Type 0
@@ -55,7 +55,7 @@ Byte b = b < 256
 
 -- bytes in the writer's order that read as a content are what is written of it
 abbrev pub WritesAgain : Type 0
-WritesAgain = (bs : List ℕ) (c : Content) → All Byte bs → InOrder bs → parse bs ≡ Ok c → encoded c ≡ bs
+WritesAgain = (bs : List ℕ) (c : Content) → AllByRecursion Byte bs → InOrder bs → parse bs ≡ Ok c → encoded c ≡ bs
 
 -- what is written stands in that order
 abbrev pub WritesInOrder : Type 0

@@ -1,6 +1,6 @@
 -- The first rows as the code makes them.
 use Rattle.std.proofs.Common.{◌≡◌, ℕ, ◌+◌, ◌^◌, ◌<◌, ◌≤◌, List, [], length, get_or, take, refl, ap, ◌∙◌, ⊎_elim, arith}
-use Rattle.std.specs.List.{AllByRecursion as All}
+use Rattle.std.specs.List.{AllByRecursion}
 use Rattle.std.proofs.lemmas.List.{length-map, take_all, get_or_past, get_or-set_same, get_or-set_other}
 use Rattle.std.proofs.lemmas.Bool.{cases_eq, cases_lt, eq-eqb, ne_eqb}
 use Rattle.plant.specs.declared.held.HeldLine.{HeldLine}
@@ -32,7 +32,7 @@ pub blank_all : (rs : List Row) (k : ℕ) → length rs ≤ k → ((u : ℕ) →
 blank_all rs k j h u = ⊎_elim (λ (i : u < k). h u i) (λ (i : k ≤ u). get_or_past rs u row0 (omega arith)) (cases_lt u k)
 
 -- one line more
-pub first_step : (hs : List HeldLine) (i : ℕ) (x : HeldLine) → i < length hs → x ≡ get_or hs i x → (n s : ℕ) (rs rs' : List Row) → All (SoundArc n) (arcs hs) →
+pub first_step : (hs : List HeldLine) (i : ℕ) (x : HeldLine) → i < length hs → x ≡ get_or hs i x → (n s : ℕ) (rs rs' : List Row) → AllByRecursion (SoundArc n) (arcs hs) →
     rs ≡ first_rows n s (take i (arcs hs)) → rs' ≡ sent x.line.from x.line.to x.flow rs → rs' ≡ first_rows n s (take (i + 1) (arcs hs))
 first_step hs i x j e n s rs rs' all q r =
     r ∙ ap (sent x.line.from x.line.to x.flow) q
@@ -43,6 +43,6 @@ pub first_all : (hs : List HeldLine) (i n s : ℕ) (rs : List Row) → length hs
 first_all hs i n s rs j q = q ∙ ap (first_rows n s) (take_all i (arcs hs) (rw (length-map hs arc) j))
 
 -- the rows so far are bounded
-pub first_small : (hs : List HeldLine) (i n s : ℕ) (rs : List Row) → All (SoundArc n) (arcs hs) → Light (arcs hs) → rs ≡ first_rows n s (take i (arcs hs)) → Bounded (2 ^ 40) rs
+pub first_small : (hs : List HeldLine) (i n s : ℕ) (rs : List Row) → AllByRecursion (SoundArc n) (arcs hs) → Light (arcs hs) → rs ≡ first_rows n s (take i (arcs hs)) → Bounded (2 ^ 40) rs
 first_small hs i n s rs all light q =
     rw q (weaker (summed every high_of (lines_of (arcs hs))) (2 ^ 40) (first_rows n s (take i (arcs hs))) light (first_bounded n s i (arcs hs) all))

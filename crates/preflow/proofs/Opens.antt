@@ -1,7 +1,7 @@
 -- The lines of each stage as the code makes them.
 use Rattle.std.proofs.Common.{◌≡◌, ℕ, zero, suc, ◌+◌, ◌-◌, ◌*◌, ◌<◌, ◌≤◌, Bool, true, false, cond, ◌&&◌, eqb, ltb, List, [], ◌∷◌, ◌++◌, map, length, get_or, take, drop, set, ℤ, Some, None, Option, sym, refl, ap, ◌∙◌, add-one, arith}
 use borrow.Author.Differences.{up, down}
-use Rattle.std.specs.List.{AllByRecursion as All}
+use Rattle.std.specs.List.{AllByRecursion}
 use Rattle.std.proofs.ByRecursion.{All-from_get_or}
 use Rattle.std.proofs.lemmas.List.{append_assoc, append-nil, drop_more, get_or-map, length-map, get_or-take, length-take, length-take-le, map-append, take_all, take_more, take_more_set}
 use Rattle.std.proofs.lemmas.Int.{ints}
@@ -114,10 +114,10 @@ settle_fits hs₀ hs ls k x i j m d e =
     omega (arith, (get_or hs₀ k x).within.1, ap high_of f, ap (λ (h : HeldLine). h.flow) z)
 
 -- sums of limits of fine lines
-fine_all : (n : ℕ) (ls : List Line) → ((k : ℕ) → k < length ls → Fine n (get_or ls k no_line)) → All (Fine n) ls
+fine_all : (n : ℕ) (ls : List Line) → ((k : ℕ) → k < length ls → Fine n (get_or ls k no_line)) → AllByRecursion (Fine n) ls
 fine_all n ls f = All-from_get_or (Fine n) ls no_line f
 
-sums_le : (n : ℕ) (p : Line → Bool) (g : Line → ℕ) (ls : List Line) → ((l : Line) → Fine n l → g l ≤ 1000000) → All (Fine n) ls → summed p g ls ≤ 1000000 * length ls
+sums_le : (n : ℕ) (p : Line → Bool) (g : Line → ℕ) (ls : List Line) → ((l : Line) → Fine n l → g l ≤ 1000000) → AllByRecursion (Fine n) ls → summed p g ls ≤ 1000000 * length ls
 sums_le n p g [] f a = omega arith
 sums_le n p g (l ∷ ls) f a = omega (arith, one (p l), sums_le n p g ls f a.1)
   where
@@ -135,7 +135,7 @@ module _ (n : ℕ) (ls : List Line) (few : length ls ≤ 1000) (fine : (k : ℕ)
       let b = sums_le n (leaves v) low_of ls (λ l f. omega (arith, f.3, f.4)) (fine_all n ls fine) in
       (omega (arith, ints, a, b, one_sided (surplus ls v)), omega (arith, ints, a, b, one_sided (surplus ls v)))
 
-  shifted_fit : (ks : List Line) → All (Fine n) ks → summed every high_of (map shifted ks) ≤ 1000000 * length ks
+  shifted_fit : (ks : List Line) → AllByRecursion (Fine n) ks → summed every high_of (map shifted ks) ≤ 1000000 * length ks
   shifted_fit [] a = omega arith
   shifted_fit (l ∷ ks) a = omega (arith, shifted_fit ks a.1, a.0.4)
 
@@ -162,7 +162,7 @@ module _ (n : ℕ) (ls : List Line) (few : length ls ≤ 1000) (fine : (k : ℕ)
   pub second_light : (as' : List Arc) → Light (second_arcs ls as')
   second_light as' = omega (arith, go ls as' (fine_all n ls fine))
     where
-      go : (ks : List Line) (bs : List Arc) → All (Fine n) ks → summed every high_of (lines_of (second_arcs ks bs)) ≤ 1000000 * length ks
+      go : (ks : List Line) (bs : List Arc) → AllByRecursion (Fine n) ks → summed every high_of (lines_of (second_arcs ks bs)) ≤ 1000000 * length ks
       go [] bs a = omega arith
       go (l ∷ ks) [] a = omega arith
       go (l ∷ ks) (b ∷ bs) a = omega (arith, go ks bs a.1, a.0.4)

@@ -1,7 +1,7 @@
 -- A scan in its midst, beside a chooser.
 use Rattle.std.proofs.Common.{◌≡◌, ℕ, ◌+◌, ◌<◌, ◌≤◌, Bool, List, [], ◌∷◌, ◌++◌, length, get_or, drop, set, sym, refl, ap, ◌∙◌, add-one}
 use borrow.Author.Differences.{up}
-use Rattle.std.specs.List.{AllByRecursion as All}
+use Rattle.std.specs.List.{AllByRecursion}
 use Rattle.std.proofs.lemmas.List.{drop_all, drop_more, get_or-map, length-map, map-set}
 use Rattle.std.proofs.ByRecursion.{All-get_or}
 use Rattle.plant.specs.declared.held.HeldLine.{HeldLine}
@@ -23,7 +23,7 @@ module _ (hs : List HeldLine) (i : ℕ) (x : HeldLine) (j : i < length hs) (e : 
   pub item_is : get_or (arcs hs) i (arc x) ≡ arc x
   item_is = get_or-map arc hs i x (arc x) j ∙ ap arc (sym e)
 
-  pub item_all : (P : Arc → Type 0) → All P (arcs hs) → P (arc x)
+  pub item_all : (P : Arc → Type 0) → AllByRecursion P (arcs hs) → P (arc x)
   item_all P a = rw item_is at (All-get_or P (arcs hs) i (arc x) (rw (length-map hs arc) j) a)
 
   pub item_drop : drop i (arcs hs) ≡ arc x ∷ drop (i + 1) (arcs hs)
@@ -58,7 +58,7 @@ module _ {C : Type 0} (has : C → ℕ → Bool) (puts : C → ℕ → ℕ → C
     pub half_puts : HalfPuts s t v k ls₀ rs₀ ls rs put
     pub made : PutAll (Puts has puts) c₀ put c
 
-  pub going_none : (s t v : ℕ) (ls : List Arc) (rs : List Row) (c : C) → All (SoundArc (length rs)) ls → Going s t v 0 ls rs c ls rs c
+  pub going_none : (s t v : ℕ) (ls : List Arc) (rs : List Row) (c : C) → AllByRecursion (SoundArc (length rs)) ls → Going s t v 0 ls rs c ls rs c
   going_none s t v ls rs c a = record { half = half_none v (amount v) ls rs a; put = []; half_puts = refl; made = refl }
 
   pub going_more : (s t v k : ℕ) (ls₀ : List Arc) (rs₀ : List Row) (c₀ : C) (hs : List HeldLine) (rs : List Row) (c : C) (x y : HeldLine) (rs' : List Row) (c' : C) →

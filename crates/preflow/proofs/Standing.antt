@@ -1,6 +1,6 @@
 -- The numbers of a stage that stands leave room to add.
 use Rattle.std.proofs.Common.{◌≡◌, ℕ, ◌*◌, ◌^◌, ◌<◌, ◌≤◌, true, List, length, ap, ⊎_elim, arith}
-use Rattle.std.specs.List.{AllByRecursion as All}
+use Rattle.std.specs.List.{AllByRecursion}
 use Rattle.std.proofs.lemmas.List.{get_or_past, take_all}
 use Rattle.std.proofs.lemmas.Int.{ints}
 use Rattle.std.proofs.lemmas.Bool.{cases_lt}
@@ -83,7 +83,7 @@ begun_stands n s t ls js jt differ bal light =
       light = light_still ls (begun_arcs s ls (first_rows n s ls)) (swept_lines s (whole s) ls (first_rows n s ls)) light;
     }
 
-pub sound_like : (n m : ℕ) (ls ls' : List Arc) → n ≡ m → ls ≡ ls' → All (SoundArc m) ls' → All (SoundArc n) ls
+pub sound_like : (n m : ℕ) (ls ls' : List Arc) → n ≡ m → ls ≡ ls' → AllByRecursion (SoundArc m) ls' → AllByRecursion (SoundArc n) ls
 sound_like n m ls ls' e f a = rw (e, f) a
 
 pub light_like : (ls ls' : List Arc) → ls ≡ ls' → Light ls' → Light ls

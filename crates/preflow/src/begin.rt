@@ -6,7 +6,7 @@ ghost use Rattle.preflow.specs.Stages.{Light, Stands, state};
 ghost use Rattle.stage.specs.Model.{begin_puts, begun, begun_arcs, begun_rows, first_rows};
 ghost use Rattle.stage.specs.Runs.{PutAll, Tied};
 ghost use Rattle.stage.specs.States.{Balanced, SoundArc};
-ghost use Rattle.std.specs.List.{AllByRecursion as All};
+ghost use Rattle.std.specs.List.{AllByRecursion};
 
 use super::push::push;
 use super::rows::{Rows, Stage, blank_rows, relabel, send};
@@ -16,7 +16,7 @@ use stage::Row;
 
 // Label N at the start and 0 elsewhere; the excess of each junction is that of the flow.
 fn first_rows(stage: Stage, lines: &[HeldLine], rows: &mut [Row])
-    requires { (length rows.old ≡ stage.junctions) × ((All (SoundArc stage.junctions) (arcs lines.now)) × (Light (arcs lines.now))) }
+    requires { (length rows.old ≡ stage.junctions) × ((AllByRecursion (SoundArc stage.junctions) (arcs lines.now)) × (Light (arcs lines.now))) }
     ensures { rows.new ≡ first_rows stage.junctions stage.start (arcs lines.now) }
 {
     blank_rows(rows);

@@ -6,7 +6,7 @@ ghost use Rattle.preflow.specs.Stages.{Stands, Stepped, state, state_of};
 ghost use Rattle.stage.specs.Model.{active, discharge_puts, discharged_arcs, discharged_rows, lower, lowest, scan_arcs, scan_puts, scan_rows, unspent};
 ghost use Rattle.stage.specs.Runs.{PutAll, Tied};
 ghost use Rattle.stage.specs.States.{SoundArc};
-ghost use Rattle.std.specs.List.{AllByRecursion as All};
+ghost use Rattle.std.specs.List.{AllByRecursion};
 
 use super::push::push_and_put;
 use super::rows::{Rows, Stage, relabel};
@@ -43,7 +43,7 @@ fn lower(held: &HeldLine, rows: &[Row], v: u8, best: u32) -> u32
 
 // The smallest of `most` and the labels that residuals lead to from `v`.
 fn lowest(lines: &[HeldLine], rows: &[Row], v: u8, most: u32) -> u32
-    requires { All (SoundArc (length rows.now)) (arcs lines.now) }
+    requires { AllByRecursion (SoundArc (length rows.now)) (arcs lines.now) }
     ensures { result ≡ lowest v (arcs lines.now) rows.now most }
 {
     let mut best = most;

@@ -1,5 +1,5 @@
 -- The sheet in its buffer.
-use Rattle.std.proofs.Common.{◌≡◌, ℕ, ◌-◌, ◌<◌, ◌≤◌, Bool, List, length, take, drop, pos, Some, None, Ok, Err, Option, Result, sym, refl, ap, ◌∙◌, subst, arith, length-append, length-drop, length-take}
+use Rattle.std.proofs.Common.{◌≡◌, ℕ, ◌-◌, IfOk, ◌<◌, ◌≤◌, Bool, List, length, take, drop, pos, Some, None, Ok, Err, Option, Result, sym, refl, ap, ◌∙◌, subst, arith, length-append, length-drop, length-take}
 use Rattle.std.proofs.lemmas.Bool.{le-ltb, lt-ltb}
 use Rattle.chooser.specs.declared.fifo.Fifo.{Fifo}
 use Rattle.chooser.specs.FifoCalls.{holds}
@@ -160,6 +160,11 @@ module _ (before after : List ℕ) where
     where
       ok_len : (x y : ℕ) → ◌≡◌ {A = Result ℕ Decline} (Ok x) (Ok y) → x ≡ y
       ok_len x y q = cc
+
+  -- a listing is short
+  pub listed_short : (o : Result Content Decline) (r : Result ℕ Decline) → 16384 ≤ length before → Listed o before r after → IfOk r (λ len. (len ≤ 16384) × (16384 ≤ length after))
+  listed_short o (Err d) room h = tt
+  listed_short o (Ok len) room h = let t = ok_texted o len room h in (t.1, t.2)
 
   -- a file with a fault, as the text call tells it
   pub err_texted : (o : Result Content Decline) (d : Decline) (mid : List ℕ) (len : ℕ) → 16384 ≤ length before → Listed o before (Err d) mid → len ≤ 16384

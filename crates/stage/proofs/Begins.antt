@@ -1,6 +1,6 @@
 -- A stage begins as it should.
 use Rattle.std.proofs.Common.{◌≡◌, ℕ, zero, suc, ◌-◌, ◌<◌, ◌≤◌, ◌⊎◌, List, [], ◌∷◌, length, get_or, pos, ◌+ℤ◌, sym, refl, ap, ◌∙◌, ⊎_elim, arith}
-use Rattle.std.specs.List.{AllByRecursion as All}
+use Rattle.std.specs.List.{AllByRecursion}
 use Rattle.std.proofs.lemmas.Int.{ints}
 use Rattle.std.proofs.lemmas.List.{length-append, ext_get_or, get_or_append_left, get_or-append_right}
 use Rattle.std.proofs.lemmas.Bool.{cases_eq, eq-eqb, ne_eqb}
@@ -53,7 +53,7 @@ first n s ls =
       truth = λ u k. omega (arith, ints, ap (λ (r : Row). r.excess) (at u k));
     }
 
-begun_valid : (n v : ℕ) (h : ℕ → ℕ) (ls : List Arc) (rs : List Row) → ((u : ℕ) → u < n → (u ≡ v → ⊥) → h u ≡ 0) → All (SoundArc n) ls → All (Valid h) (begun_arcs v ls rs)
+begun_valid : (n v : ℕ) (h : ℕ → ℕ) (ls : List Arc) (rs : List Row) → ((u : ℕ) → u < n → (u ≡ v → ⊥) → h u ≡ 0) → AllByRecursion (SoundArc n) ls → AllByRecursion (Valid h) (begun_arcs v ls rs)
 begun_valid n v h [] rs z s = tt
 begun_valid n v h (l ∷ ls) rs z s = (
   ⊎_elim

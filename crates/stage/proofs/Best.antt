@@ -1,7 +1,7 @@
 -- What a stage has when it ends.
 use Rattle.std.proofs.Common.{◌≡◌, ℕ, suc, ◌+◌, ◌*◌, ◌<◌, ◌≤◌, true, false, eqb, ◌⊎◌, List, [], ◌∷◌, sym, refl, ap, ◌∙◌, inl, inr, ⊎_elim, arith}
 use borrow.Author.Differences.{up}
-use Rattle.std.specs.List.{ContainsAt as Has, AllByRecursion as All}
+use Rattle.std.specs.List.{ContainsAt, AllByRecursion}
 use Rattle.std.proofs.ByRecursion.{all-has, All-weaker}
 use Rattle.std.proofs.lemmas.Int.{ints}
 use Rattle.std.proofs.lemmas.Bool.{cases_eq, cases_lt, cases_Bool, eq-eqb, ne_eqb, eqb-true, ltb-true, both_ways}
@@ -75,7 +75,7 @@ end_is_best n s t ms ls rs ended =
     )
 
 -- what is in a set that no residual leaves reaches only that set
-reach_inside : (n : ℕ) (X : Junctions) (ls : List Arc) {v w : ℕ} → All (SoundArc n) ls → All (Tight X) ls → X v ≡ true → Reach ls v w → X w ≡ true
+reach_inside : (n : ℕ) (X : Junctions) (ls : List Arc) {v w : ℕ} → AllByRecursion (SoundArc n) ls → AllByRecursion (Tight X) ls → X v ≡ true → Reach ls v w → X w ≡ true
 reach_inside n X ls s t x here = x
 reach_inside n X ls s t x (on {w} {x = y} r l has q e) =
     let i : X w ≡ true = reach_inside n X ls s t x r in
@@ -100,7 +100,7 @@ goal_out_of_reach n s t ls rs st r =
 
 -- a residual from v leads to the label x
 abbrev Found : ℕ → List Arc → List Row → ℕ → Type 0
-Found v ls rs x = (l : Arc) × Has ls l × (0 < residual v l) × (x ≡ lab rs (other v l))
+Found v ls rs x = (l : Arc) × ContainsAt ls l × (0 < residual v l) × (x ≡ lab rs (other v l))
 
 lowest_reached : (v m : ℕ) (ls : List Arc) (rs : List Row) → (lowest v ls rs m ≡ m) ⊎ Found v ls rs (lowest v ls rs m)
 lowest_reached v m [] rs = inl refl
@@ -118,7 +118,7 @@ lowest_reached v m (l ∷ ls) rs =
     (λ (q : Found v ls rs x). inr (q.0, (suc q.1.0, omega (arith, q.1.1), q.1.2), q.2, q.3))
     (lowest_reached v m' ls rs)
 
-alone_tight : (n v : ℕ) (h : ℕ → ℕ) (ls : List Arc) → ((u : ℕ) → u < n → h u < 2 * n) → All (SoundArc n) ls → All (λ l. 0 < residual v l → 2 * n ≤ h (other v l)) ls → All (Tight (λ u. eqb u v)) ls
+alone_tight : (n v : ℕ) (h : ℕ → ℕ) (ls : List Arc) → ((u : ℕ) → u < n → h u < 2 * n) → AllByRecursion (SoundArc n) ls → AllByRecursion (λ l. 0 < residual v l → 2 * n ≤ h (other v l)) ls → AllByRecursion (Tight (λ u. eqb u v)) ls
 alone_tight n v h [] roof s a = tt
 alone_tight n v h (l ∷ ls) roof s a = (
   ⊎_elim
@@ -148,7 +148,7 @@ lowest_found n s t ms ls rs v h w =
     let m = 2 * n in
     ⊎_elim
     (λ (q : lowest v ls rs m ≡ m).
-    let le' : All (λ l. 0 < residual v l → m ≤ lab rs (other v l)) ls = rw q at (lowest_le v m ls rs) in
+    let le' : AllByRecursion (λ l. 0 < residual v l → m ≤ lab rs (other v l)) ls = rw q at (lowest_le v m ls rs) in
     let tg = alone_tight n v (lab rs) ls h.roof st.lines le' in
     let same : (u : ℕ) → eqb u v ≡ true → (u ≡ s → ⊥) × (u ≡ t → ⊥) = λ u x. ((λ y. w.no_start (sym (eqb-true u v x) ∙ y)), (λ y. w.no_goal (sym (eqb-true u v x) ∙ y))) in
     let c : come ls v ≤ gone ls v = no_excess n (λ u. eqb u v) ls ms st.lines h.balanced.lines h.alike tg

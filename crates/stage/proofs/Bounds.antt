@@ -1,6 +1,6 @@
 -- No excess is beyond the sum of the highs.
 use Rattle.std.proofs.Common.{◌≡◌, ℕ, ◌<◌, ◌≤◌, Bool, true, false, cond, List, [], ◌∷◌, length, pos, ◌+ℤ◌, ⊎_elim, arith}
-use Rattle.std.specs.List.{AllByRecursion as All}
+use Rattle.std.specs.List.{AllByRecursion}
 use Rattle.std.proofs.lemmas.Int.{ints}
 use Rattle.std.proofs.lemmas.Bool.{cases_eq, cases_lt}
 use Rattle.plant.specs.Plants.{summed, every, high_of, leaves, ends}
@@ -15,7 +15,7 @@ use Rattle.stage.proofs.Cuts.{carries}
 use Rattle.stage.proofs.Sweeps.{Given}
 
 -- lines carry no more than their highs
-pub carries_le : (n : ℕ) (p : Line → Bool) (ls : List Arc) → All (SoundArc n) ls → carries p ls ≤ summed every high_of (lines_of ls)
+pub carries_le : (n : ℕ) (p : Line → Bool) (ls : List Arc) → AllByRecursion (SoundArc n) ls → carries p ls ≤ summed every high_of (lines_of ls)
 carries_le n p [] s = omega arith
 carries_le n p (l ∷ ls) s = omega (arith, one (p l.line), carries_le n p ls s.1)
   where
@@ -24,7 +24,7 @@ carries_le n p (l ∷ ls) s = omega (arith, one (p l.line), carries_le n p ls s.
     one false = omega arith
 
 -- rows that tell what comes in less what goes out are bounded
-pub true_bounded : (n : ℕ) (ls : List Arc) (rs : List Row) → length rs ≡ n → All (SoundArc n) ls → ((u : ℕ) → u < n → exc rs u +ℤ pos (gone ls u) ≡ pos (come ls u)) →
+pub true_bounded : (n : ℕ) (ls : List Arc) (rs : List Row) → length rs ≡ n → AllByRecursion (SoundArc n) ls → ((u : ℕ) → u < n → exc rs u +ℤ pos (gone ls u) ≡ pos (come ls u)) →
     Bounded (summed every high_of (lines_of ls)) rs
 true_bounded n ls rs e s truth u =
     ⊎_elim

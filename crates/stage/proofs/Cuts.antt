@@ -1,6 +1,6 @@
 -- Sums over junctions, and what a set that no residual leaves says of the excess in it.
 use Rattle.std.proofs.Common.{◌≡◌, ℕ, zero, suc, ◌+◌, ◌<◌, ◌≤◌, Bool, true, false, cond, eqb, List, [], ◌∷◌, sym, refl, ap, ◌∙◌, ⊎_elim, arith}
-use Rattle.std.specs.List.{AllByRecursion as All}
+use Rattle.std.specs.List.{AllByRecursion}
 use Rattle.std.proofs.ByRecursion.{All-weaker}
 use Rattle.std.proofs.lemmas.Bool.{cases_eq, cases_lt, eq-eqb, ne_eqb, both_ways}
 use Rattle.std.proofs.lemmas.Bool.Decides.{nat_tests}
@@ -97,7 +97,7 @@ sum_lt n f g h v k s =
     at u j = ⊎_elim (λ (e : u ≡ v). rw (eq-eqb u v e) (omega arith)) (λ (e : u ≡ v → ⊥). rw (ne_eqb u v e) (h u j)) (cases_eq u v)
 
 -- what the lines with an end at a junction carry, over the junctions of X
-carries_over : (n : ℕ) (X : Junctions) (end : Line → ℕ) (ls : List Arc) → All (λ l. end l.line < n) ls →
+carries_over : (n : ℕ) (X : Junctions) (end : Line → ℕ) (ls : List Arc) → AllByRecursion (λ l. end l.line < n) ls →
     over n X (λ u. carries (λ l. eqb (end l) u) ls) ≡ carries (λ l. X (end l)) ls
 carries_over n X end [] h = sum_zero n (λ u. cond (X u) 0 0) (λ u k. grind arith)
 carries_over n X end (l ∷ ls) h =
@@ -108,10 +108,10 @@ carries_over n X end (l ∷ ls) h =
     e ∙ sum_add n f g ∙ omega (arith, carries_over n X end ls h.1, sum_only n (end l.line) l.flow X h.0)
 
 -- what comes into the members of X and what goes out of them, counted line by line
-pub come_over : (n : ℕ) (X : Junctions) (ls : List Arc) → All (SoundArc n) ls → over n X (come ls) ≡ ending_in X ls
+pub come_over : (n : ℕ) (X : Junctions) (ls : List Arc) → AllByRecursion (SoundArc n) ls → over n X (come ls) ≡ ending_in X ls
 come_over n X ls h = carries_over n X (λ l. l.to) ls (All-weaker (SoundArc n) (λ l. l.line.to < n) (λ l s. s.sound.to_in) ls h)
 
-pub gone_over : (n : ℕ) (X : Junctions) (ls : List Arc) → All (SoundArc n) ls → over n X (gone ls) ≡ beginning_in X ls
+pub gone_over : (n : ℕ) (X : Junctions) (ls : List Arc) → AllByRecursion (SoundArc n) ls → over n X (gone ls) ≡ beginning_in X ls
 gone_over n X ls h = carries_over n X (λ l. l.from) ls (All-weaker (SoundArc n) (λ l. l.line.from < n) (λ l s. s.sound.from_in) ls h)
 
 -- a tight line brings X no more than any other flow of it within the limits
@@ -129,7 +129,7 @@ one_line n X l m t s a =
     go false true p q = omega (arith, q refl refl, s.above, ap low_of a)
     go false false p q = omega arith
 
-pub cut : (n : ℕ) (X : Junctions) (ls ms : List Arc) → All (Tight X) ls → All (SoundArc n) ms → lines_of ls ≡ lines_of ms →
+pub cut : (n : ℕ) (X : Junctions) (ls ms : List Arc) → AllByRecursion (Tight X) ls → AllByRecursion (SoundArc n) ms → lines_of ls ≡ lines_of ms →
     ending_in X ls + beginning_in X ms ≤ beginning_in X ls + ending_in X ms
 cut n X [] [] t s a = omega arith
 cut n X [] (m ∷ ms) t s a = let z : ◌≡◌ {A = ℕ} 0 1 = cc in absurd (omega arith)
@@ -137,7 +137,7 @@ cut n X (l ∷ ls) [] t s a = let z : ◌≡◌ {A = ℕ} 0 1 = cc in absurd (om
 cut n X (l ∷ ls) (m ∷ ms) t s a = omega (arith, one_line n X l m t.0 s.0 (cc), cut n X ls ms t.1 s.1 (cc))
 
 -- No junction of a set that no residual leaves has more coming in than going out, if none has less, and ms balances all of the set.
-pub no_excess : (n : ℕ) (X : Junctions) (ls ms : List Arc) → All (SoundArc n) ls → All (SoundArc n) ms → lines_of ls ≡ lines_of ms → All (Tight X) ls →
+pub no_excess : (n : ℕ) (X : Junctions) (ls ms : List Arc) → AllByRecursion (SoundArc n) ls → AllByRecursion (SoundArc n) ms → lines_of ls ≡ lines_of ms → AllByRecursion (Tight X) ls →
     ((u : ℕ) → u < n → X u ≡ true → come ms u ≡ gone ms u) →
     ((u : ℕ) → u < n → X u ≡ true → gone ls u ≤ come ls u) →
     (v : ℕ) → v < n → X v ≡ true → come ls v ≤ gone ls v

@@ -1,6 +1,6 @@
 -- The first rows, line by line: a line sends its flow from its one end to the other.
 use Rattle.std.proofs.Common.{◌≡◌, ℕ, zero, suc, ◌+◌, ◌<◌, ◌≤◌, Bool, cond, List, [], ◌∷◌, ◌++◌, length, get_or, take, ℤ, sym, ap, ◌∙◌, arith}
-use Rattle.std.specs.List.{AllByRecursion as All}
+use Rattle.std.specs.List.{AllByRecursion}
 use Rattle.std.proofs.ByRecursion.{All-take}
 use Rattle.std.proofs.lemmas.List.{take_more}
 use Rattle.std.proofs.lemmas.Int.{ints}
@@ -49,7 +49,7 @@ summed_take p g (suc k) [] = omega arith
 summed_take p g (suc k) (l ∷ ls) = omega (arith, summed_take p g k ls)
 
 -- the rows so far are bounded as all are
-pub first_bounded : (n s k : ℕ) (ls : List Arc) → All (SoundArc n) ls → Bounded (summed every high_of (lines_of ls)) (first_rows n s (take k ls))
+pub first_bounded : (n s k : ℕ) (ls : List Arc) → AllByRecursion (SoundArc n) ls → Bounded (summed every high_of (lines_of ls)) (first_rows n s (take k ls))
 first_bounded n s k ls sound u =
     let f = first n s (take k ls) in
     let b = true_bounded n (take k ls) (first_rows n s (take k ls)) f.size (All-take (SoundArc n) k ls sound) f.truth u in

@@ -1,10 +1,10 @@
 -- Among more levels than labels one is free.
 use Rattle.std.proofs.Common.{◌≡◌, ℕ, zero, suc, ◌+◌, ◌<◌, ◌≤◌, ◌⊎◌, List, [], ◌∷◌, length, inl, inr, ⊎_elim, arith}
-use Rattle.std.specs.List.{AllByRecursion as All}
+use Rattle.std.specs.List.{AllByRecursion}
 use Rattle.std.proofs.lemmas.Bool.{cases_eq}
 
 abbrev Free : ℕ → List ℕ → Type 0
-Free g xs = All (λ x. x ≡ g → ⊥) xs
+Free g xs = AllByRecursion (λ x. x ≡ g → ⊥) xs
 
 -- either no label is a, or those other than a are fewer; and what is free of the others and above a is free of all
 record Split (a : ℕ) (xs : List ℕ) : Type 0 where

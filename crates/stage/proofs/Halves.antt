@@ -1,7 +1,7 @@
 -- A sweep that has done k lines: what a loop over the lines keeps.
 use Rattle.std.proofs.Common.{◌≡◌, ℕ, ◌+◌, ◌<◌, ◌≤◌, List, [], ◌∷◌, ◌++◌, length, get_or, take, drop, set, sym, refl, ap, ◌∙◌, arith}
 use borrow.Author.Differences.{up}
-use Rattle.std.specs.List.{AllByRecursion as All}
+use Rattle.std.specs.List.{AllByRecursion}
 use Rattle.std.proofs.lemmas.List.{length-set, drop_more, take_more_set, drop-set-lt, append_assoc, append-nil, take_all, drop_all, take-append-drop}
 use Rattle.plant.specs.Held.{Arc}
 use Rattle.stage.specs.declared.Row.{Row}
@@ -19,7 +19,7 @@ pub record Half (v : ℕ) (d : Arc → List Row → ℕ) (k : ℕ) (ls₀ : List
   pub rows_size : length rs ≡ length rs₀
   pub arcs_left : take k ls ++ swept_arcs v d (drop k ls) rs ≡ swept_arcs v d ls₀ rs₀
   pub rows_left : swept_rows v d (drop k ls) rs ≡ swept_rows v d ls₀ rs₀
-  pub sound : All (SoundArc (length rs₀)) (drop k ls)
+  pub sound : AllByRecursion (SoundArc (length rs₀)) (drop k ls)
   pub labels : (u : ℕ) → lab rs u ≡ lab rs₀ u
   pub given : Given v rs₀ rs
 
@@ -28,7 +28,7 @@ drop_at : (ls : List Arc) (k : ℕ) (x : Arc) → k < length ls → get_or ls k 
 drop_at ls k x j here = drop_more ls k x j ∙ ap (λ y. y ∷ drop (k + 1) ls) here
 
 module _ (v : ℕ) (d : Arc → List Row → ℕ) where
-  pub half_none : (ls : List Arc) (rs : List Row) → All (SoundArc (length rs)) ls → Half v d 0 ls rs ls rs
+  pub half_none : (ls : List Arc) (rs : List Row) → AllByRecursion (SoundArc (length rs)) ls → Half v d 0 ls rs ls rs
   half_none ls rs s = record { size = refl; rows_size = refl; arcs_left = refl; rows_left = refl; sound = s; labels = λ u. refl; given = given_none v rs }
 
   -- one line more, x at place k
@@ -40,7 +40,7 @@ module _ (v : ℕ) (d : Arc → List Row → ℕ) where
       let dm : drop k ls ≡ x ∷ drop (k + 1) ls = drop_at ls k x j here in
       let ds : drop (k + 1) (set ls k l) ≡ drop (k + 1) ls = drop-set-lt (k + 1) ls k l (omega arith) in
       let tm : take (k + 1) (set ls k l) ≡ take k ls ++ l ∷ [] = take_more_set ls k l j in
-      let all : All (SoundArc (length rs₀)) (x ∷ drop (k + 1) ls) = rw dm at h.sound in
+      let all : AllByRecursion (SoundArc (length rs₀)) (x ∷ drop (k + 1) ls) = rw dm at h.sound in
       let ln : take k ls ++ (shift v (d x rs) x ∷ swept_arcs v d (drop (k + 1) ls) rs₁) ≡ swept_arcs v d ls₀ rs₀ = rw dm at h.arcs_left in
       let rn : swept_rows v d (drop (k + 1) ls) rs₁ ≡ swept_rows v d ls₀ rs₀ = rw dm at h.rows_left in
       record {
@@ -56,7 +56,7 @@ module _ (v : ℕ) (d : Arc → List Row → ℕ) where
   -- the line at place k is sound still
   pub half_here : (k : ℕ) (ls₀ : List Arc) (rs₀ : List Row) (ls : List Arc) (rs : List Row) (x : Arc) → k < length ls → get_or ls k x ≡ x → Half v d k ls₀ rs₀ ls rs → SoundArc (length rs) x
   half_here k ls₀ rs₀ ls rs x j here h =
-      let all : All (SoundArc (length rs₀)) (x ∷ drop (k + 1) ls) = rw (drop_at ls k x j here) at h.sound in
+      let all : AllByRecursion (SoundArc (length rs₀)) (x ∷ drop (k + 1) ls) = rw (drop_at ls k x j here) at h.sound in
       rw h.rows_size all.0
 
   -- rows in the midst are bounded as those before and after are

@@ -1,7 +1,7 @@
 -- What a discharge does to the labels of the active junctions.
 use Rattle.std.proofs.Common.{◌≡◌, ℕ, ◌+◌, ◌-◌, ◌*◌, ◌<◌, ◌≤◌, cond, List, [], ◌∷◌, length, ap, ◌∙◌, ⊎_elim, mul-one, mul-add, arith}
 use borrow.Author.Differences.{up}
-use Rattle.std.specs.List.{AllByRecursion as All}
+use Rattle.std.specs.List.{AllByRecursion}
 use Rattle.std.proofs.lemmas.Int.{ints}
 use Rattle.std.proofs.lemmas.Bool.{cases_eq, cases_lt, eq-eqb, ne_eqb}
 use Rattle.plant.specs.Held.{Arc}
@@ -96,7 +96,7 @@ pub record Heated (n s t v k c : ℕ) (rs rs' : List Row) : Type 0 where
   pub done : 0 < up (exc rs v) → up (exc rs' v) ≡ 0 → cold n s t v rs' + 1 ≤ cold n s t v rs + k * c + lab rs v
   pub idle : up (exc rs v) ≡ 0 → cold n s t v rs' ≤ cold n s t v rs + k * c
 
-pub heated : (n s t v k : ℕ) (ls : List Arc) (rs : List Row) → length rs ≡ n → v < n → lab rs v ≤ k → All (SoundArc n) ls → Heated n s t v k (scan_sats v ls rs) rs (scan_rows v ls rs)
+pub heated : (n s t v k : ℕ) (ls : List Arc) (rs : List Row) → length rs ≡ n → v < n → lab rs v ≤ k → AllByRecursion (SoundArc n) ls → Heated n s t v k (scan_sats v ls rs) rs (scan_rows v ls rs)
 heated n s t v k [] rs e j b a = record { left = λ q. omega arith; done = λ q r. absurd (omega arith); idle = λ q. omega arith }
 heated n s t v k (l ∷ ls) rs e j b a =
     let d = amount v l rs in

@@ -1,7 +1,7 @@
 -- A discharge keeps what holds of a stage.
 use Rattle.std.proofs.Common.{◌≡◌, ℕ, ◌+◌, ◌*◌, ◌<◌, ◌≤◌, min, ◌⊎◌, List, [], ◌∷◌, length, pos, ◌≤ℤ◌, sym, ap, ◌∙◌, ⊎_elim, arith}
 use borrow.Author.Differences.{up}
-use Rattle.std.specs.List.{AllByRecursion as All}
+use Rattle.std.specs.List.{AllByRecursion}
 use Rattle.std.proofs.ByRecursion.{All-weaker}
 use Rattle.std.proofs.lemmas.Int.{ints}
 use Rattle.std.proofs.lemmas.Bool.{cases_eq, cases_lt, lt-ltb, le-ltb}
@@ -19,7 +19,7 @@ use Rattle.stage.proofs.Levels.{labels_bounded}
 use Rattle.stage.proofs.Actives.{active_true}
 
 -- labels that are the same are valid alike
-valid_like : (h k : ℕ → ℕ) → ((x : ℕ) → h x ≡ k x) → (ls : List Arc) → All (Valid h) ls → All (Valid k) ls
+valid_like : (h k : ℕ → ℕ) → ((x : ℕ) → h x ≡ k x) → (ls : List Arc) → AllByRecursion (Valid h) ls → AllByRecursion (Valid k) ls
 valid_like h k e ls s =
     All-weaker (Valid h) (Valid k)
     (λ l v. record { on = λ q. omega (arith, v.on q, e l.line.from, e l.line.to); back = λ q. omega (arith, v.back q, e l.line.from, e l.line.to) })
@@ -39,15 +39,15 @@ pub lowest_start : (v m : ℕ) (ls : List Arc) (rs : List Row) → lowest v ls r
 lowest_start v m [] rs = omega arith
 lowest_start v m (l ∷ ls) rs = omega (arith, lowest_start v (lower v l rs m) ls rs, low_le v m l rs)
 
-pub lowest_le : (v m : ℕ) (ls : List Arc) (rs : List Row) → All (λ l. 0 < residual v l → lowest v ls rs m ≤ lab rs (other v l)) ls
+pub lowest_le : (v m : ℕ) (ls : List Arc) (rs : List Row) → AllByRecursion (λ l. 0 < residual v l → lowest v ls rs m ≤ lab rs (other v l)) ls
 lowest_le v m ls rs = go m ls (lowest v ls rs m) (omega arith)
   where
-    go : (m : ℕ) (ks : List Arc) (x : ℕ) → x ≤ lowest v ks rs m → All (λ l. 0 < residual v l → x ≤ lab rs (other v l)) ks
+    go : (m : ℕ) (ks : List Arc) (x : ℕ) → x ≤ lowest v ks rs m → AllByRecursion (λ l. 0 < residual v l → x ≤ lab rs (other v l)) ks
     go m [] x q = tt
     go m (l ∷ ks) x q =
         ((λ z. omega (arith, lowest_start v (lower v l rs m) ks rs, low_yes v m l rs z)), go (lower v l rs m) ks x q)
 
-lowest_ge : (v m x : ℕ) (ls : List Arc) (rs : List Row) → x ≤ m → All (λ l. 0 < residual v l → x ≤ lab rs (other v l)) ls → x ≤ lowest v ls rs m
+lowest_ge : (v m x : ℕ) (ls : List Arc) (rs : List Row) → x ≤ m → AllByRecursion (λ l. 0 < residual v l → x ≤ lab rs (other v l)) ls → x ≤ lowest v ls rs m
 lowest_ge v m x [] rs k a = k
 lowest_ge v m x (l ∷ ls) rs k a =
     let k' : x ≤ lower v l rs m = ⊎_elim
@@ -57,7 +57,7 @@ lowest_ge v m x (l ∷ ls) rs k a =
     lowest_ge v (lower v l rs m) x ls rs k' a.1
 
 -- after a scan every neighbour in reach is at least as high
-level : (n v : ℕ) (h : ℕ → ℕ) (ls : List Arc) → All (SoundArc n) ls → All (Valid h) ls → All (Spent h v) ls → All (λ l. 0 < residual v l → h v ≤ h (other v l)) ls
+level : (n v : ℕ) (h : ℕ → ℕ) (ls : List Arc) → AllByRecursion (SoundArc n) ls → AllByRecursion (Valid h) ls → AllByRecursion (Spent h v) ls → AllByRecursion (λ l. 0 < residual v l → h v ≤ h (other v l)) ls
 level n v h [] s st sp = tt
 level n v h (l ∷ ls) s st sp = (
   (λ z. ⊎_elim
@@ -79,8 +79,8 @@ level n v h (l ∷ ls) s st sp = (
 )
 
 -- a relabel keeps the labels valid
-relabel_valid : (n v x : ℕ) (rs : List Row) (ls : List Arc) → length rs ≡ n → v < n → All (SoundArc n) ls → All (Valid (lab rs)) ls →
-    lab rs v ≤ x → All (λ l. 0 < residual v l → x ≤ lab rs (other v l) + 1) ls → All (Valid (lab (labelled v x rs))) ls
+relabel_valid : (n v x : ℕ) (rs : List Row) (ls : List Arc) → length rs ≡ n → v < n → AllByRecursion (SoundArc n) ls → AllByRecursion (Valid (lab rs)) ls →
+    lab rs v ≤ x → AllByRecursion (λ l. 0 < residual v l → x ≤ lab rs (other v l) + 1) ls → AllByRecursion (Valid (lab (labelled v x rs))) ls
 relabel_valid n v x rs [] e k s st up' low = tt
 relabel_valid n v x rs (l ∷ ls) e k s st up' low =
     let h' : lab (labelled v x rs) v ≡ x = lab_labelled rs v x (omega arith) in (
@@ -147,7 +147,7 @@ in_hand n s t ms ls rs h u k p q = omega (arith, ints, h.truth u k, h.off u k p 
 
 -- a relabel to x, above the old label and at most 1 + each label in reach, keeps what holds
 relabel_holds : (n s t : ℕ) (ms ls : List Arc) (rs : List Row) (v x : ℕ) → Holds n s t ms ls rs → Active n s t rs v → lab rs v ≤ x →
-    All (λ l. 0 < residual v l → x ≤ lab rs (other v l) + 1) ls → Holds n s t ms ls (labelled v x rs)
+    AllByRecursion (λ l. 0 < residual v l → x ≤ lab rs (other v l) + 1) ls → Holds n s t ms ls (labelled v x rs)
 relabel_holds n s t ms ls rs v x h w up' low =
     let st = h.standing in
     let rs' = labelled v x rs in
@@ -188,7 +188,7 @@ discharge_done n v ls rs q = rw (le-ltb 0 (up (exc (scan_rows v ls rs) v)) q)
 
 -- after a scan that leaves excess: no push is possible, no label in reach is below v's own, and the new label is above it
 pub record Stuck (n v : ℕ) (ls : List Arc) (rs : List Row) : Type 0 where
-  pub spent : All (Spent (lab rs) v) ls
+  pub spent : AllByRecursion (Spent (lab rs) v) ls
   pub higher : lab rs v ≤ lowest v ls rs (2 * n)
 
 pub stuck : (n s t : ℕ) (ms ls : List Arc) (rs : List Row) (v : ℕ) → Holds n s t ms ls rs → Active n s t rs v → 0 < up (exc (scan_rows v ls rs) v) →

@@ -1,6 +1,6 @@
 -- A free level parts the junctions.
 use Rattle.std.proofs.Common.{◌≡◌, ℕ, ◌+◌, ◌*◌, ◌<◌, ◌≤◌, true, ltb, ◌≢◌, List, [], ◌∷◌, map, length, ap, ◌∙◌, ⊎_elim, arith}
-use Rattle.std.specs.List.{AllByRecursion as All}
+use Rattle.std.specs.List.{AllByRecursion}
 use Rattle.std.proofs.lemmas.List.{length-map, get_or-map}
 use Rattle.std.proofs.ByRecursion.{All-get_or}
 use Rattle.std.proofs.lemmas.Bool.{cases_lt, ltb-true, ltb-false, lt-ltb, le-ltb}
@@ -45,7 +45,7 @@ tight n g rs l none s h =
           ⊎_elim (λ (f : low_of l.line < l.flow). absurd (omega (arith, h.back f))) (λ (f : l.flow ≤ low_of l.line). omega (arith, s.above)) (cases_lt (low_of l.line) l.flow);
     }
 
-all_tight : (n g : ℕ) (rs : List Row) (ls : List Arc) → ((u : ℕ) → u < n → lab rs u ≡ g → ⊥) → All (SoundArc n) ls → All (Valid (lab rs)) ls → All (Tight (above rs g)) ls
+all_tight : (n g : ℕ) (rs : List Row) (ls : List Arc) → ((u : ℕ) → u < n → lab rs u ≡ g → ⊥) → AllByRecursion (SoundArc n) ls → AllByRecursion (Valid (lab rs)) ls → AllByRecursion (Tight (above rs g)) ls
 all_tight n g rs [] none s h = tt
 all_tight n g rs (l ∷ ls) none s h = (tight n g rs l none s.0 h.0, all_tight n g rs ls none s.1 h.1)
 

@@ -1,6 +1,6 @@
 -- Pushes that leave no residual are few.
 use Rattle.std.proofs.Common.{◌≡◌, ℕ, ◌+◌, ◌*◌, ◌<◌, ◌≤◌, cond, eqb, ltb, ◌⊎◌, List, [], ◌∷◌, length, refl, ap, ◌∙◌, ⊎_elim, add-mul, one-mul, arith}
-use Rattle.std.specs.List.{AllByRecursion as All}
+use Rattle.std.specs.List.{AllByRecursion}
 use Rattle.std.proofs.lemmas.Bool.{cases_lt, eq-eqb, ne_eqb, lt-ltb, le-ltb}
 use Rattle.plant.specs.Plants.{low_of, high_of}
 use Rattle.plant.specs.Held.{Arc}
@@ -117,7 +117,7 @@ mark_shift n v c h l rs e roof k s m =
     o)
     (lies n v l s)
 
-pub scan_marked : (n v : ℕ) (h : ℕ → ℕ) (ls : List Arc) (rs : List Row) (cs : List ℕ) → ((x : ℕ) → lab rs x ≡ h x) → ((x : ℕ) → x < n → h x < 2 * n) → v < n → All (SoundArc n) ls →
+pub scan_marked : (n v : ℕ) (h : ℕ → ℕ) (ls : List Arc) (rs : List Row) (cs : List ℕ) → ((x : ℕ) → lab rs x ≡ h x) → ((x : ℕ) → x < n → h x < 2 * n) → v < n → AllByRecursion (SoundArc n) ls →
     Marked n h ls cs → Marked n h (scan_arcs v ls rs) (scan_marks v ls rs cs) × (total (scan_marks v ls rs cs) ≡ total cs + scan_sats v ls rs)
 scan_marked n v h [] rs [] e roof k s m = (tt, refl)
 scan_marked n v h [] rs (c ∷ cs) e roof k s m = absurd m

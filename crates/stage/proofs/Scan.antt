@@ -1,7 +1,7 @@
 -- What a scan of the lines keeps.
 use Rattle.std.proofs.Common.{◌≡◌, ℕ, ◌+◌, ◌-◌, ◌<◌, ◌≤◌, min, List, [], ◌∷◌, length, pos, ◌≤ℤ◌, refl, ap, ◌∙◌, ⊎_elim, arith}
 use borrow.Author.Differences.{up}
-use Rattle.std.specs.List.{AllByRecursion as All}
+use Rattle.std.specs.List.{AllByRecursion}
 use Rattle.std.proofs.lemmas.Int.{ints}
 use Rattle.std.proofs.lemmas.Bool.{cases_eq, eq-eqb, ne_eqb}
 use Rattle.plant.specs.Held.{Arc}
@@ -16,7 +16,7 @@ use Rattle.stage.proofs.Sweeps.{sent_by, swept_given}
 pub amount_fits : (v : ℕ) (l : Arc) (rs : List Row) → amount v l rs ≤ residual v l
 amount_fits v l rs = (pushed v l rs).in_room
 
-pub scan_valid : (n v : ℕ) (h : ℕ → ℕ) (ls : List Arc) (rs : List Row) → ((x : ℕ) → lab rs x ≡ h x) → All (SoundArc n) ls → All (Valid h) ls → All (Valid h) (scan_arcs v ls rs)
+pub scan_valid : (n v : ℕ) (h : ℕ → ℕ) (ls : List Arc) (rs : List Row) → ((x : ℕ) → lab rs x ≡ h x) → AllByRecursion (SoundArc n) ls → AllByRecursion (Valid h) ls → AllByRecursion (Valid h) (scan_arcs v ls rs)
 scan_valid n v h [] rs e s st = tt
 scan_valid n v h (l ∷ ls) rs e s st =
     let p = pushed v l rs in (
@@ -25,7 +25,7 @@ scan_valid n v h (l ∷ ls) rs e s st =
     )
 
 -- v gives no more than it has
-pub scan_kept : (n v : ℕ) (ls : List Arc) (rs : List Row) → length rs ≡ n → v < n → All (SoundArc n) ls → pos 0 ≤ℤ exc rs v → pos 0 ≤ℤ exc (scan_rows v ls rs) v
+pub scan_kept : (n v : ℕ) (ls : List Arc) (rs : List Row) → length rs ≡ n → v < n → AllByRecursion (SoundArc n) ls → pos 0 ≤ℤ exc rs v → pos 0 ≤ℤ exc (scan_rows v ls rs) v
 scan_kept n v [] rs e k s q = q
 scan_kept n v (l ∷ ls) rs e k s q =
     let m = sent_by n v (amount v l rs) l rs e k s.0 in
@@ -47,8 +47,8 @@ residual_shift n v d l s k =
     (cases_eq l.line.to v))
     (cases_eq l.line.from v)
 
-pub scan_spent : (n v : ℕ) (h : ℕ → ℕ) (ls : List Arc) (rs : List Row) → ((x : ℕ) → lab rs x ≡ h x) → length rs ≡ n → v < n → All (SoundArc n) ls →
-    0 < up (exc (scan_rows v ls rs) v) → All (Spent h v) (scan_arcs v ls rs)
+pub scan_spent : (n v : ℕ) (h : ℕ → ℕ) (ls : List Arc) (rs : List Row) → ((x : ℕ) → lab rs x ≡ h x) → length rs ≡ n → v < n → AllByRecursion (SoundArc n) ls →
+    0 < up (exc (scan_rows v ls rs) v) → AllByRecursion (Spent h v) (scan_arcs v ls rs)
 scan_spent n v h [] rs e z k s q = tt
 scan_spent n v h (l ∷ ls) rs e z k s q =
     let d = amount v l rs in

@@ -1,6 +1,6 @@
 -- What a sweep of the lines keeps.
 use Rattle.std.proofs.Common.{◌≡◌, ℕ, ◌+◌, ◌-◌, ◌<◌, ◌≤◌, ◌⊎◌, List, [], ◌∷◌, length, pos, ◌+ℤ◌, neg_ℤ, ◌≤ℤ◌, sym, refl, ap, ◌∙◌, ⊎_elim, arith}
-use Rattle.std.specs.List.{AllByRecursion as All}
+use Rattle.std.specs.List.{AllByRecursion}
 use Rattle.std.proofs.lemmas.Int.{ints}
 use Rattle.std.proofs.lemmas.Bool.{cases_eq, eq-eqb, ne_eqb}
 use Rattle.plant.specs.Held.{Arc, lines_of}
@@ -119,7 +119,7 @@ module _ (v : ℕ) (d : Arc → List Row → ℕ) where
   swept_lab [] rs x = refl
   swept_lab (l ∷ ls) rs x = swept_lab ls (sent v (other v l) (d l rs) rs) x ∙ lab_sent v (other v l) (d l rs) rs x
 
-  pub swept_given : (n : ℕ) (ls : List Arc) (rs : List Row) → length rs ≡ n → v < n → All (SoundArc n) ls → Given v rs (swept_rows v d ls rs)
+  pub swept_given : (n : ℕ) (ls : List Arc) (rs : List Row) → length rs ≡ n → v < n → AllByRecursion (SoundArc n) ls → Given v rs (swept_rows v d ls rs)
   swept_given n [] rs e k s = given_none v rs
   swept_given n (l ∷ ls) rs e k s =
       let rs₁ = sent v (other v l) (d l rs) rs in
@@ -127,12 +127,12 @@ module _ (v : ℕ) (d : Arc → List Row → ℕ) where
       (swept_given n ls rs₁ (length_sent v (other v l) (d l rs) rs ∙ e) k s.1)
 
 module _ (v : ℕ) (d : Arc → List Row → ℕ) (fits : (l : Arc) (rs : List Row) → d l rs ≤ residual v l) where
-  pub swept_sound : (n : ℕ) (ls : List Arc) (rs : List Row) → All (SoundArc n) ls → All (SoundArc n) (swept_arcs v d ls rs)
+  pub swept_sound : (n : ℕ) (ls : List Arc) (rs : List Row) → AllByRecursion (SoundArc n) ls → AllByRecursion (SoundArc n) (swept_arcs v d ls rs)
   swept_sound n [] rs s = tt
   swept_sound n (l ∷ ls) rs s = (sound_shift n v (d l rs) l s.0 (fits l rs), swept_sound n ls (sent v (other v l) (d l rs) rs) s.1)
 
   -- the excesses change as the flows do
-  pub swept_balance : (n : ℕ) (ls : List Arc) (rs : List Row) → length rs ≡ n → v < n → All (SoundArc n) ls → (u : ℕ) →
+  pub swept_balance : (n : ℕ) (ls : List Arc) (rs : List Row) → length rs ≡ n → v < n → AllByRecursion (SoundArc n) ls → (u : ℕ) →
       exc (swept_rows v d ls rs) u +ℤ pos (gone (swept_arcs v d ls rs) u + come ls u) ≡ exc rs u +ℤ pos (gone ls u + come (swept_arcs v d ls rs) u)
   swept_balance n [] rs e k s u = refl
   swept_balance n (l ∷ ls) rs e k s u =

@@ -1,7 +1,7 @@
 -- A chooser that holds just the active junctions goes on doing so.
 use Rattle.std.proofs.Common.{◌≡◌, ℕ, zero, suc, ◌<◌, ◌≤◌, Bool, true, false, not, List, [], ◌∷◌, length, ◌≤ℤ◌, Some, Option, sym, refl, ap, ◌∙◌, ⊎_elim, arith}
 use borrow.Author.Differences.{up}
-use Rattle.std.specs.List.{AllByRecursion as All}
+use Rattle.std.specs.List.{AllByRecursion}
 use Rattle.std.proofs.lemmas.Int.{ints}
 use Rattle.std.proofs.lemmas.Bool.{cases_eq, cases_lt, cases_Bool, and_parts, and_cases, not-false, ltb-true, ltb-false, both_ways}
 use Rattle.plant.specs.Held.{Arc}
@@ -76,7 +76,7 @@ module _ {C : Type 0} (has : C → ℕ → Bool) (puts : C → ℕ → ℕ → C
             (cases_eq u w);
       }
 
-  scan_tied : (n s t v : ℕ) (ls : List Arc) (rs : List Row) (c c' : C) → n ≤ 252 → length rs ≡ n → v < n → All (SoundArc n) ls →
+  scan_tied : (n s t v : ℕ) (ls : List Arc) (rs : List Row) (c c' : C) → n ≤ 252 → length rs ≡ n → v < n → AllByRecursion (SoundArc n) ls →
       PutAll puts c (scan_puts s t v ls rs) c' → TiedOff s t v rs c → TiedOff s t v (scan_rows v ls rs) c'
   scan_tied n s t v [] rs c c' cap e k sl p tied = rw p tied
   scan_tied n s t v (l ∷ ls) rs c c' cap e k sl p tied =

@@ -1,7 +1,7 @@
 -- What is proved of every stage.
 use Rattle.std.specs.Prelude.{◌≡◌, ℕ, ◌+◌, ◌<◌, ◌≤◌, Bool, true, false, ◌≢◌, List, [], length, ◌≤ℤ◌, Option}
 use borrow.Author.Differences.{up}
-use Rattle.std.specs.List.{ContainsAt as Has, AllByRecursion as All}
+use Rattle.std.specs.List.{ContainsAt, AllByRecursion}
 use Rattle.plant.specs.Plants.{Plant, Sound, Feasible, Best, Junctions, summed, every, high_of}
 use Rattle.plant.specs.Held.{Arc, lines_of, flows_of}
 use Rattle.plant.specs.declared.aim.Aim.TheVariants.{Greatest, Least}
@@ -33,13 +33,13 @@ DischargeKeeps = (n s t : ℕ) (ms ls : List Arc) (rs : List Row) (v : ℕ) → 
 -- From an active junction some residual leads on.
 abbrev pub ActiveGoesOn : Type 0
 ActiveGoesOn = (n s t : ℕ) (ms ls : List Arc) (rs : List Row) (v : ℕ) → Holds n s t ms ls rs → active s t rs v ≡ true →
-    (l : Arc) × Has ls l × (0 < residual v l)
+    (l : Arc) × ContainsAt ls l × (0 < residual v l)
 
 -- over lines and rows after the scan of v: no push is possible any more, and h is one above the smallest label in reach
 pub record Relabel (v : ℕ) (ls : List Arc) (rs : List Row) (h : ℕ) : Type 0 where
-  pub stuck : All (λ l. 0 < residual v l → lab rs v ≢ lab rs (other v l) + 1) ls
-  pub least : All (λ l. 0 < residual v l → h ≤ lab rs (other v l) + 1) ls
-  pub met : (l : Arc) × Has ls l × (0 < residual v l) × (h ≡ lab rs (other v l) + 1)
+  pub stuck : AllByRecursion (λ l. 0 < residual v l → lab rs v ≢ lab rs (other v l) + 1) ls
+  pub least : AllByRecursion (λ l. 0 < residual v l → h ≤ lab rs (other v l) + 1) ls
+  pub met : (l : Arc) × ContainsAt ls l × (0 < residual v l) × (h ≡ lab rs (other v l) + 1)
 
 -- A relabel comes only where v can push no more, and gives that label.
 abbrev pub RelabelExact : Type 0
@@ -88,7 +88,7 @@ pub record SetTies : Type 0 where
 -- Some set that has the start and lacks the goal is left by no residual.
 abbrev pub StartParted : Type 0
 StartParted = (n s t : ℕ) (ls : List Arc) (rs : List Row) → Standing n s t ls rs →
-    (X : Junctions) × (X s ≡ true) × (X t ≡ false) × All (Tight X) ls
+    (X : Junctions) × (X s ≡ true) × (X t ≡ false) × AllByRecursion (Tight X) ls
 
 -- So no residual path leads from the start to the goal.
 abbrev pub GoalOutOfReach : Type 0

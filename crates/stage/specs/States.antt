@@ -1,7 +1,7 @@
 -- What holds of a stage with n junctions, a start s and a goal t.
 use Rattle.std.specs.Prelude.{◌≡◌, ℕ, ◌+◌, ◌*◌, ◌<◌, ◌≤◌, true, false, ◌≢◌, List, length, pos, ◌+ℤ◌, neg_ℤ, ◌≤ℤ◌}
 use borrow.Author.Differences.{up}
-use Rattle.std.specs.List.{ContainsAt as Has, AllByRecursion as All}
+use Rattle.std.specs.List.{ContainsAt, AllByRecursion}
 use Rattle.plant.specs.Plants.{SoundLine, Junctions, low_of, high_of}
 use Rattle.plant.specs.Held.{Arc, lines_of}
 use Rattle.stage.specs.declared.Row.{Row}
@@ -26,18 +26,18 @@ pub record Tight (X : Junctions) (l : Arc) : Type 0 where
 
 -- a balanced flow: sound, and as much comes into each junction but s and t as goes out
 pub record Balanced (n s t : ℕ) (ls : List Arc) : Type 0 where
-  pub lines : All (SoundArc n) ls
+  pub lines : AllByRecursion (SoundArc n) ls
   pub even : (u : ℕ) → u < n → u ≢ s → u ≢ t → come ls u ≡ gone ls u
 
 -- sound lines, and valid labels with the start at n and the goal at 0
 pub record Standing (n s t : ℕ) (ls : List Arc) (rs : List Row) : Type 0 where
-  pub lines : All (SoundArc n) ls
+  pub lines : AllByRecursion (SoundArc n) ls
   pub size : length rs ≡ n
   pub start_in : s < n
   pub goal_in : t < n
   pub start_label : lab rs s ≡ n
   pub goal_label : lab rs t ≡ 0
-  pub valid : All (Valid (lab rs)) ls
+  pub valid : AllByRecursion (Valid (lab rs)) ls
 
 -- what holds between two discharges; ms is a balanced flow of the same lines
 pub record Holds (n s t : ℕ) (ms ls : List Arc) (rs : List Row) : Type 0 where
@@ -62,4 +62,4 @@ Bounded b rs = (u : ℕ) → (neg_ℤ (pos b) ≤ℤ exc rs u) × (exc rs u ≤�
 -- a path of residuals
 pub data Reach (ls : List Arc) (v : ℕ) : ℕ → Type 0 where
   here : Reach ls v v
-  on : {w x : ℕ} → Reach ls v w → (l : Arc) → Has ls l → 0 < residual w l → x ≡ other w l → Reach ls v x
+  on : {w x : ℕ} → Reach ls v w → (l : Arc) → ContainsAt ls l → 0 < residual w l → x ≡ other w l → Reach ls v x

@@ -3,7 +3,7 @@ use Rattle.std.proofs.Common.{◌≡◌, ℕ, zero, suc, ◌<◌, Bool, true, fa
 use lib.Signed.{le_z, le_z_yes, ≤ℤ_refl}
 use Rattle.std.proofs.lemmas.Int.{ints}
 use Rattle.std.proofs.lemmas.Bool.{and_from, and_parts, both_ways, eq-eqb, eqb-true, leb-true, lt-ltb, ltb-true, not_from_false, not-true}
-use Rattle.std.specs.List.{AllByRecursion as All}
+use Rattle.std.specs.List.{AllByRecursion}
 use Rattle.plant.proofs.Tested.{Passed, passed}
 use Rattle.plant.specs.declared.aim.Aim.{Aim}
 use Rattle.plant.specs.declared.aim.Aim.TheVariants.{Greatest, Least}
@@ -205,11 +205,11 @@ checks_tell row e =
     (passed_sound P p.0, total_told aim P (total_of row.answer) p.0 p.1, sets_told aim P row.answer p.1 p.2, each_tells (checks_trial aim P) (RightTrial aim P) (trial_told aim P) row.trials p.3)
 
 -- ---- the table
-pub table_right : All Right table
+pub table_right : AllByRecursion Right table
 table_right = each_tells checks Right checks_tell table refl
 
 -- the total of a row that is right
-pub total_right : (rows : List Row) → All Right rows → (k : ℕ) → k < length rows → TotalAt rows k (get_or (map (λ (r : Row). total_of r.answer) rows) k None)
+pub total_right : (rows : List Row) → AllByRecursion Right rows → (k : ℕ) → k < length rows → TotalAt rows k (get_or (map (λ (r : Row). total_of r.answer) rows) k None)
 total_right [] rights k i = absurd (omega arith)
 total_right (row ∷ rows) rights zero i = rights.0.1
 total_right (row ∷ rows) rights (suc k) i = total_right rows rights.1 k (omega arith)

@@ -2,7 +2,7 @@
 use Rattle.std.proofs.Common.{◌≡◌, ℕ, zero, suc, ◌<◌, Bool, true, false, not, ◌&&◌, ◌||◌, eqb, ltb, List, [], ◌∷◌, sym, refl, ap, ◌∙◌, subst, inl, inr, arith}
 use mathlib.Core.Path.{fun_ext}
 use Rattle.std.proofs.lemmas.Bool.{and_parts, both_ways, cases_Bool, cases_eq, eqb-true, ltb-true, not-true, or_cases, eqb-false}
-use Rattle.std.specs.List.{AllByRecursion as All}
+use Rattle.std.specs.List.{AllByRecursion}
 use Rattle.plant.specs.Plants.{Junctions, Subset}
 use Rattle.cuts.proofs.Search.{out_of}
 use Rattle.worked.specs.Checks.{all_below, each, each_below, each_set, implies, joining, nothing, some_set, subset}
@@ -75,6 +75,6 @@ set_below n (u ∷ us) e v t =
     elim (or_cases (eqb v u) (set_of us v) t) [ inl d ↦ omega (arith, eqb-true v u d, ltb-true u n p.0) | inr d ↦ set_below n us p.1 v d ]
 
 -- a test of each element that tells Q
-pub each_tells : {X : Type 0} (q : X → Bool) (Q : X → Type 0) → ((x : X) → q x ≡ true → Q x) → (xs : List X) → each q xs ≡ true → All Q xs
+pub each_tells : {X : Type 0} (q : X → Bool) (Q : X → Type 0) → ((x : X) → q x ≡ true → Q x) → (xs : List X) → each q xs ≡ true → AllByRecursion Q xs
 each_tells q Q tells [] e = tt
 each_tells q Q tells (x ∷ xs) e = let p = and_parts (q x) (each q xs) e in (tells x p.0, each_tells q Q tells xs p.1)

@@ -2,7 +2,7 @@
 use Rattle.std.specs.Prelude.{◌≡◌, ℕ, zero, suc, ◌<◌, false, ◌||◌, List, [], ◌∷◌, length, ℤ, Some, None, Option, ◌==◌}
 use Rattle.plant.specs.declared.aim.Aim.{Aim}
 use Rattle.plant.specs.Plants.{Best, FarCut, Feasible, Flow, Junctions, NearCut, Plant, shortfall, Sound, total, with_limits, WorstHurdle}
-use Rattle.std.specs.List.{AllByRecursion as All}
+use Rattle.std.specs.List.{AllByRecursion}
 
 -- a trial: a line at other limits, and the best total then, or None if no flow is feasible
 pub record Trial : Type 0 where
@@ -61,7 +61,7 @@ Right row =
     Sound row.plant
     × HasTotal row.aim row.plant (total_of row.answer)
     × RightSets row.aim row.plant row.answer
-    × All (RightTrial row.aim row.plant) row.trials
+    × AllByRecursion (RightTrial row.aim row.plant) row.trials
 
 -- r is the total of row k; past the last row it is None
 abbrev pub TotalAt : List Row → ℕ → Option ℤ → Type 0

@@ -2,7 +2,7 @@
 #![tactic(auto)]
 
 ghost use Rattle.std.specs.Prelude.{◌≡◌, length};
-ghost use Rattle.std.specs.List.{AllByRecursion as All};
+ghost use Rattle.std.specs.List.{AllByRecursion};
 ghost use Rattle.worked.specs.Checks.{ChecksTell};
 ghost use Rattle.worked.specs.Rows.{Right, TotalAt};
 ghost use Rattle.worked.specs.Table.{table};
@@ -30,7 +30,7 @@ pub fn checks_tell() -> u8
 
 /// Every row of the table is right: its best total, its near and far cut or its worst hurdle, and its trials. Answers the number of rows.
 pub fn worked_plants() -> usize
-    ensures { All Right table × (result ≡ length table) }
+    ensures { AllByRecursion Right table × (result ≡ length table) }
 {
     TOTALS.len()
 }

@@ -10,9 +10,9 @@ returns-in-Ok g c q s =
     let kept : length after ≡ c.in_ok-numbers.numbers.len = c.crossing.auto.out ∙ c.deref_mut.ensures.len in
     let whole = take-append-le c.in_ok-numbers.numbers.len after rest (omega arith) ∙ take_all c.in_ok-numbers.numbers.len after (omega arith) in
     crossing_told g.C.Chooser.has c.args.planner.now q c.args.side c.args.room (record { before = c.deref_mut.result.now; answer = Ok c.in-Ok.count; after = after }) _ s
-    (c.deref_mut.ensures.len ∙ c.in_ok-numbers.ensures.len) (c.truncate.new.self, refl, c.truncate.ensures.items ∙ ap (take c.in-Ok.count) whole) c.in-Ok.ensures
+    (c.deref_mut.ensures.len ∙ c.in_ok-numbers.ensures.len) (c.truncate.new.self, refl, c.truncate.ensures.items ∙ ap (take c.in-Ok.count) whole) (c.in-Ok.ensures.seen c.requires)
 
 pub returns-in-Err : goal.returns-in-Err
 returns-in-Err g c q s =
     crossing_told g.C.Chooser.has c.args.planner.now q c.args.side c.args.room (record { before = c.deref_mut.result.now; answer = Err c.in-Err.decline; after = c.crossing.new.out }) _ s
-    (c.deref_mut.ensures.len ∙ c.in_ok-numbers.ensures.len) refl c.in-Err.ensures
+    (c.deref_mut.ensures.len ∙ c.in_ok-numbers.ensures.len) refl (c.in-Err.ensures.seen c.requires)

@@ -6,7 +6,7 @@ use Rattle.std.proofs.lemmas.List.{at_drop_all}
 use Rattle.std.proofs.lemmas.Result.{err_from_is_err_and}
 use Rattle.sheet_text.proofs.Testing.{here_fails, here_passes}
 use Rattle.sheet_text.proofs.checked.test_trials.Goals as goal
-use Rattle.sheet_text.proofs.checked.test_trials.Goals.{in-Some+in-ok-test_trial, in_default}
+use Rattle.sheet_text.proofs.checked.test_trials.Goals.{in-Some+in_ok-test_trial, in_default}
 
 pub returns-in_err-test_trial : goal.returns-in_err-test_trial
 returns-in_err-test_trial c =
@@ -16,7 +16,7 @@ returns-in_err-test_trial c =
 
 pub loop-i-preserved : goal.loop-i-preserved
 loop-i-preserved c = elim c.match-nth.branch [
-  | in-Some+in-ok-test-trial w ↦ let n = w.in-Some.ensures in c.loop-i.invariant ∙ here_passes c.args.count (items c.args.waiting.now) c.loop-i.i w.in-Some.trial n.0 n.1 w.in_ok-test_trial.ensures
+  | in-Some+in_ok-test_trial w ↦ let n = w.in-Some.ensures in c.loop-i.invariant ∙ here_passes c.args.count (items c.args.waiting.now) c.loop-i.i w.in-Some.trial n.0 n.1 w.in_ok-test_trial.ensures
   | in_default w ↦ absurd (omega (arith, w.in_default.ensures, c.loop-i-test.true, c.len-i-end.ensures))
 ]
 

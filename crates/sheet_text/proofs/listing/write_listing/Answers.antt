@@ -12,7 +12,7 @@ use Rattle.ring.specs.Held.{items}
 use Rattle.std.proofs.lemmas.Result.{err_from_is_err_and}
 use Rattle.sheet_text.specs.Sheets.{checked}
 use Rattle.sheet_text.specs.Steps.{Ready, content}
-use Rattle.sheet_text.proofs.Showing.{all_listed, asks_told, settled_flow, short_listed}
+use Rattle.sheet_text.proofs.Showing.{all_listed, asks_told, listed_short, settled_flow, short_listed}
 use Rattle.sheet_text.proofs.Testing.{list_tested}
 use Rattle.sheet_text.proofs.listing.write_listing.Goals as goal
 
@@ -27,7 +27,7 @@ pub returns-in_err-expect_room : goal.returns-in_err-expect_room
 returns-in_err-expect_room c =
     let p = err_from_is_err_and c.from_residual-in_err-expect_room.result c.from_residual-in_err-expect_room.ensures.1 in
     let e = c.in_err-expect_room.ensures in
-    rw (p.1, p.2) (short_listed c.args.out.now (checked c.args.file.now) _ _ c.in_ok-heading.ensures.told e.0 e.1)
+    rw (p.1, p.2) (record { listed = short_listed c.args.out.now (checked c.args.file.now) _ _ c.in_ok-heading.ensures.told e.0 e.1; short = tt })
 
 pub returns-in_err-start : goal.returns-in_err-start
 returns-in_err-start c =
@@ -70,7 +70,8 @@ returns-in-Impossible c =
     let ls = c.read_checked.new.lines in
     let ts = items c.read_checked.new.waiting in
     let told = whole_told (checked c.args.file.now) h ls ts c.in_ok-heading.ensures.told in
-    all_listed c.args.out.now c.list_hurdle.new.out (checked c.args.file.now) (content h (take (h.lines - 0) ls) ts) c.list_hurdle.result told c.in_ok-expect_room.ensures c.list_hurdle.ensures
+    let listed = all_listed c.args.out.now c.list_hurdle.new.out (checked c.args.file.now) (content h (take (h.lines - 0) ls) ts) c.list_hurdle.result told c.in_ok-expect_room.ensures c.list_hurdle.ensures in
+    record { listed = listed; short = listed_short c.args.out.now c.list_hurdle.new.out (checked c.args.file.now) c.list_hurdle.result c.in_ok-expect_room.ensures listed }
 
 pub returns-in_default : goal.returns-in_default
 returns-in_default c =
@@ -78,4 +79,5 @@ returns-in_default c =
     let ls = c.read_checked.new.lines in
     let ts = items c.read_checked.new.waiting in
     let told = whole_told (checked c.args.file.now) h ls ts c.in_ok-heading.ensures.told in
-    all_listed c.args.out.now c.list_flow.new.out (checked c.args.file.now) (content h (take (h.lines - 0) ls) ts) c.list_flow.result told c.in_ok-expect_room.ensures c.list_flow.ensures
+    let listed = all_listed c.args.out.now c.list_flow.new.out (checked c.args.file.now) (content h (take (h.lines - 0) ls) ts) c.list_flow.result told c.in_ok-expect_room.ensures c.list_flow.ensures in
+    record { listed = listed; short = listed_short c.args.out.now c.list_flow.new.out (checked c.args.file.now) c.list_flow.result c.in_ok-expect_room.ensures listed }

@@ -11,11 +11,11 @@ returns-in_err-expect_room c =
 
 pub returns-in-Ok : goal.returns-in-Ok
 returns-in-Ok c =
-    let t = ok_texted c.args.out.now c.write_listing.new.out (checked c.args.file.now) c.in-Ok.len c.in_ok-expect_room.ensures c.in-Ok.ensures in
+    let t = ok_texted c.args.out.now c.write_listing.new.out (checked c.args.file.now) c.in-Ok.len c.in_ok-expect_room.ensures c.in-Ok.ensures.listed in
     record { text = t.0; short = (t.1, t.2) }
 
 pub returns-in-Err : goal.returns-in-Err
 returns-in-Err c =
-    let t = err_texted c.args.out.now c.put_declined.new.out (checked c.args.file.now) c.in-Err.decline c.write_listing.new.out c.put_declined.result c.in_ok-expect_room.ensures c.in-Err.ensures
+    let t = err_texted c.args.out.now c.put_declined.new.out (checked c.args.file.now) c.in-Err.decline c.write_listing.new.out c.put_declined.result c.in_ok-expect_room.ensures c.in-Err.ensures.listed
     c.put_declined.ensures.short c.put_declined.ensures.text in
     record { text = t.0; short = (t.1, t.2) }

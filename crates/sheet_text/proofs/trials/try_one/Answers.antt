@@ -14,18 +14,18 @@ returns-in_err-trial c =
     let a = c.args in
     absurd (trial_never a.heading.now.n c.number.result a.trial.line a.trial.low a.trial.high a.lines.now a.heading.now.aim c.number.ensures c.requires.list c.requires.limits _ c.in_err-trial.ensures.trials.0)
 
-pub returns-in_err-read_total : goal.returns-in_err-read_total
-returns-in_err-read_total c = absurd c.in_err-read_total.ensures
+pub returns-in_err-read_total-in-Flow : goal.returns-in_err-read_total-in-Flow
+returns-in_err-read_total-in-Flow c = absurd c.in_err-read_total-in-Flow.ensures
 
-pub returns-in_ok-read_total : goal.returns-in_ok-read_total
-returns-in_ok-read_total c =
+pub returns-in_ok-read_total-in-Flow : goal.returns-in_ok-read_total-in-Flow
+returns-in_ok-read_total-in-Flow c =
     let a = c.args in
     let r = c.in_ok-trial.ensures in
-    let t = c.in_ok-read_total.ensures in
+    let t = c.in_ok-read_total-in-Flow.ensures in
     let best = flow_tried a.heading.now.n c.number.result a.trial.line a.trial.low a.trial.high a.lines.now a.heading.now.aim c.number.ensures c.requires.list c.requires.limits _ _ _
-    a.planner.now c.trial.new.self c.in_ok-trial.field-0 r.sound r.trials c.in-Flow.is c.in_ok-read_total.field-0 t.0 in
+    a.planner.now c.trial.new.self c.in_ok-trial.field-0 r.sound r.trials c.in-Flow.is c.in_ok-read_total-in-Flow.field-0 t.0 in
     let small = line_small a.heading.now.n c.number.result a.trial.line a.trial.low a.trial.high a.lines.now a.heading.now.aim c.number.ensures c.requires.list c.requires.limits in
-    record { sound = r.sound; back = r.back; tried = (record { line = refl; total = best }, (omega (arith, small), λ x e. told c.in_ok-read_total.field-0 x t.1 e)) }
+    record { sound = r.sound; back = r.back; tried = (record { line = refl; total = best }, (omega (arith, small), λ x e. told c.in_ok-read_total-in-Flow.field-0 x t.1 e)) }
 
 pub returns-in_default : goal.returns-in_default
 returns-in_default c =

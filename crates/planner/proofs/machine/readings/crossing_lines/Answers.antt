@@ -1,5 +1,4 @@
-use Rattle.std.proofs.Common.{◌≡◌, ℕ, List, length, sym, ap, ◌∙◌, arith}
-use Rattle.plant.specs.declared.line.Line.{Line}
+use Rattle.std.proofs.Common.{length, sym, ap, ◌∙◌, arith}
 use Rattle.plant.specs.Held.{marked}
 use Rattle.plant.specs.Plants.{crossing}
 use Rattle.planner.proofs.Numbered.{numbered_else, numbered_then}

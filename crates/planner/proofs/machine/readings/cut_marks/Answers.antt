@@ -1,4 +1,4 @@
-use Rattle.std.proofs.Common.{◌≡◌, ℕ, sym, ap, ◌∙◌}
+use Rattle.std.proofs.Common.{sym, ap, ◌∙◌}
 use Rattle.plant.specs.declared.aim.Aim.{Aim}
 use Rattle.plant.specs.Held.{arcs, marked}
 use Rattle.planner.specs.Cuts.{edges}
