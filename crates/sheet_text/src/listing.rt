@@ -119,8 +119,7 @@ pub fn write_text(file: &[u8], out: &mut [u8]) -> Result<usize, Decline>
 }
 
 /// For C: the listing of a file, its length or the number of the decline as a negative.
-#[unsafe(no_mangle)]
-pub extern "C" fn widgulp_listing(file: &[u8], out: &mut [u8]) -> i64
+pub fn widgulp_listing(file: &[u8], out: &mut [u8]) -> i64
     ensures { ListedNumber (checked file.now) out.old result out.new }
 {
     match write_listing(file, out) {
