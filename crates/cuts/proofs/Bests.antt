@@ -4,7 +4,7 @@ use Rattle.std.proofs.lemmas.Int.{ints, by_lt_z}
 use Rattle.std.proofs.lemmas.Bool.{both_ways, cases_Bool, eqb-true}
 use Rattle.plant.specs.declared.aim.Aim.{Aim}
 use Rattle.plant.specs.declared.aim.Aim.TheVariants.{Greatest, Least}
-use Rattle.plant.specs.Plants.{Plant, Flow, Junctions, Sound, Feasible, Best, Cut, Tightest, Subset, NoBetter, Step, Reaches, total, bound}
+use Rattle.plant.specs.Plants.{Plant, Flow, Junctions, Sound, Feasible, Best, Cut, NearCut, Tightest, Subset, NoBetter, Step, Reaches, total, bound}
 use Rattle.cuts.specs.Theorems.{BestExactly, NearSmallest, FarLargest, NearFar, NearSame, FarSame, AnyBest, Between, StrongDuality, BestExists}
 use Rattle.cuts.proofs.Duality.{weak_duality, fills}
 use Rattle.cuts.proofs.Search.{in_or, stays}
@@ -45,13 +45,12 @@ tightest_stays aim P f S sound best tight v w t r =
 
 pub near_smallest : NearSmallest
 near_smallest aim P f N sound best near =
-    let m = near_meets aim P f N sound best.feasible (best_apart aim P f best) near in (
-      record {
-        tightest = meets_tightest aim P f N sound best.feasible m.0 m.1;
-        smallest = λ R tight v t. tightest_stays aim P f R sound best tight 0 v tight.cut.header (near.inside v t);
-      },
-      m.1,
-    )
+    let m = near_meets aim P f N sound best.feasible (best_apart aim P f best) near in
+    let is_near : NearCut aim P N = record {
+      tightest = meets_tightest aim P f N sound best.feasible m.0 m.1;
+      smallest = λ R tight v t. tightest_stays aim P f R sound best tight 0 v tight.cut.header (near.inside v t);
+    } in
+    (is_near, m.1)
 
 pub far_largest : FarLargest
 far_largest aim P f F sound best far =

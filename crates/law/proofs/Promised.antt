@@ -9,7 +9,7 @@ use Rattle.law.specs.declared.script.Answer.TheVariants as told
 use Rattle.law.specs.declared.script.Call.{Call}
 use Rattle.law.specs.declared.script.Call.TheVariants.{Crossing, Cut, Flow, Hurdle, Tallies, Total, Trial, Work}
 use Rattle.law.specs.Law.{Follows, Law, OnFlow, OnHurdle, Run, Settles, Worked}
-use Rattle.law.specs.Phases.{Counts, Impossible, Limited, Phase, Plan, Question, Solved, blocked, counts_of, cut_of, flowing, idle, limit, no_counts, tried, working}
+use Rattle.law.specs.Phases.{Counts, Impossible, Limited, Phase, Plan, Question, Solved, blocked, counts_of, cut_of, flowing, idle, no_counts, tried, working}
 use Rattle.law.specs.Promises as promise
 use Rattle.law.specs.Promises.{CutOn, LawPromises, Makes, TrueOf}
 use Rattle.law.specs.Scripts.{Script, Told, asked, kept, outcome_of, question_of, stands, works}

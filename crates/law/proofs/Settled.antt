@@ -8,7 +8,7 @@ use Rattle.cuts.specs.Theorems.{Outward}
 use Rattle.first.proofs.Network.{first_count}
 use Rattle.law.specs.declared.script.Given.{Given}
 use Rattle.law.specs.Law.{Settles, Widens}
-use Rattle.law.specs.Phases.{Impossible, Limited, Phase, Plan, Question, Solved, blocked, flowing, lines_one, no_counts, question, tried}
+use Rattle.law.specs.Phases.{Limited, Phase, Plan, Question, Solved, blocked, flowing, lines_one, no_counts, question, tried}
 use Rattle.law.specs.Promises.{EverySettled, LimitsSame, ReadingsFixed, WideningDerived}
 use Rattle.law.specs.Refusal.{passing, test_given}
 use Rattle.planner.proofs.Tried.{limited_tested}

@@ -1,15 +1,14 @@
 -- Starts, works and trials of a planner follow the law.
-use Rattle.std.proofs.Common.{◌≡◌, ℕ, ◌+◌, ◌<◌, ◌≤◌, Bool, true, false, cond, eqb, List, length, Some, None, Ok, Err, Option, Result, sym, refl, ap, ◌∙◌, subst, inl, inr, arith}
+use Rattle.std.proofs.Common.{◌≡◌, ℕ, ◌+◌, ◌<◌, Bool, true, false, cond, eqb, List, length, Some, None, Ok, Err, Option, Result, sym, refl, ap, ◌∙◌, subst, inl, inr, arith}
 use Rattle.cuts.proofs.Bests.{best_meets, near_far}
 use Rattle.cuts.proofs.Hurdles.{worst_exists}
 use Rattle.law.proofs.Steps.{accepts, declines}
 use Rattle.law.proofs.Settled.{widening_derived, within_limited}
-use Rattle.law.specs.declared.script.Answer.{Answer}
 use Rattle.law.specs.declared.script.Answer.TheVariants as told
 use Rattle.law.specs.declared.script.Call.TheVariants.{Start, Trial, Work}
 use Rattle.law.specs.declared.script.Given.{Given}
-use Rattle.law.specs.Law.{Decided, Follows, Settles, Worked}
-use Rattle.law.specs.Phases.{Begun, Counted, Counts, Limited, Phase, Plan, Question, Solved, aim_of, blocked, counts_of, flowing, idle, limit, no_counts, question, tried, working}
+use Rattle.law.specs.Law.{Follows, Settles}
+use Rattle.law.specs.Phases.{Begun, Counted, Counts, Limited, Phase, Plan, Question, Solved, aim_of, blocked, counts_of, flowing, limit, no_counts, question, tried, working}
 use Rattle.law.specs.Promises.{Rightly}
 use Rattle.law.specs.Refusal.{passing, refusal, test_work}
 use Rattle.planner.specs.declared.answer.Outcome.{Outcome}
@@ -22,7 +21,7 @@ use Rattle.planner.specs.Calls as calls
 use Rattle.planner.specs.Calls.{Starts, Started, Trials, Works, TrialFails, bad_work, limits_fail, nothing, number, plant_fails}
 use Rattle.planner.specs.Limits.{limited}
 use Rattle.planner.specs.Standing.{Sound, Stand, arcs_in, more, no_tally, plant_in, two_in}
-use Rattle.planner.specs.Works.{InOne, InTwo, OpenedTwo, Runs, SomeActive, Through, Ways, in_one, in_two, in_work, through}
+use Rattle.planner.specs.Works.{Runs, SomeActive, Ways, in_one, in_two, in_work, through}
 use Rattle.planner.proofs.Laws.{flow_best, limits, stuck_none}
 use Rattle.planner.proofs.Questions.{sound_plant, two_feasible}
 use Rattle.plant.specs.declared.aim.Aim.{Aim}
@@ -32,8 +31,8 @@ use Rattle.plant.specs.declared.decline.Decline.TheVariants.{AimNumber, NothingI
 use Rattle.plant.specs.declared.held_plant.HeldPlant.{HeldPlant}
 use Rattle.plant.specs.declared.line.Line.{Line}
 use Rattle.plant.specs.Held.{flows_of, plant_of}
-use Rattle.plant.specs.Plants.{Best, Plant, with_limits}
-use Rattle.plant.specs.Tests.{aim_numbered, test, test_list, test_trial, tested, unless}
+use Rattle.plant.specs.Plants.{Plant, with_limits}
+use Rattle.plant.specs.Tests.{test, test_list, test_trial, tested, unless}
 use Rattle.runs.specs.Played.{told_start, told_trial, told_work}
 use Rattle.runs.specs.Shows.{InPhase, Shows, counts_in, made_in, question_in}
 

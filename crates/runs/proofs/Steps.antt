@@ -1,5 +1,5 @@
 -- What one call does, put together from its parts.
-use Rattle.std.proofs.Common.{◌≡◌, ℕ, Bool, true, false, cond, IfOk, IfErr, Some, None, Ok, Err, Option, Result, sym, refl, ap, ◌∙◌, subst, arith}
+use Rattle.std.proofs.Common.{◌≡◌, ℕ, Bool, true, false, cond, IfOk, IfErr, Some, None, Ok, Err, Option, Result, refl, ap, ◌∙◌, subst, arith}
 use Rattle.law.proofs.Steps.{declines}
 use Rattle.law.specs.declared.script.Answer.{Answer}
 use Rattle.law.specs.declared.script.Answer.TheVariants as told

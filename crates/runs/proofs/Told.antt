@@ -1,5 +1,5 @@
 -- Readings of a planner follow the law.
-use Rattle.std.proofs.Common.{◌≡◌, ℕ, ◌≤◌, Bool, true, false, ltb, leb, List, [], ◌∷◌, ◌++◌, length, get_or, take, drop, ℤ, Some, None, Ok, Err, Option, Result, Vec, sym, refl, ap, ◌∙◌, subst, arith}
+use Rattle.std.proofs.Common.{◌≡◌, ℕ, ◌≤◌, Bool, true, false, ltb, leb, List, ◌++◌, length, get_or, take, drop, ℤ, None, Ok, Err, Result, Vec, sym, refl, ap, ◌∙◌, subst, arith}
 use mathlib.Core.Path.{fun_ext}
 use Rattle.cuts.proofs.Bests.{far_same, near_same}
 use Rattle.cuts.proofs.Hurdles.{worst_same}
@@ -8,7 +8,7 @@ use Rattle.law.specs.declared.script.Answer.TheVariants as told
 use Rattle.law.specs.declared.script.Call.TheVariants.{Crossing, Cut, Flow, Hurdle, Tallies, Total}
 use Rattle.law.specs.Law.{Decided, Follows}
 use Rattle.law.specs.Refusal as Refusal
-use Rattle.law.specs.Phases.{Counts, Phase, Plan, Question, Solved, cut_of, flowing, idle, working, blocked, Impossible}
+use Rattle.law.specs.Phases.{Counts, Phase, Plan, Question, Solved, cut_of, flowing, blocked, Impossible}
 use Rattle.planner.specs.declared.answer.Side.{Side}
 use Rattle.planner.specs.declared.answer.Side.TheVariants.{Far, Near}
 use Rattle.planner.specs.declared.answer.Tally.{Tally}
@@ -16,12 +16,12 @@ use Rattle.planner.specs.declared.machine.Planner.{Planner}
 use Rattle.planner.specs.declared.machine.State.{State}
 use Rattle.planner.specs.declared.machine.State.TheVariants.{Idle, SettledFlow, SettledImpossible, StageOne, StageTwo}
 use Rattle.planner.specs.Cuts.{Extreme}
-use Rattle.planner.specs.Readings.{CrossingSeen, CutSeen, CutShown, Filled, HurdleSeen, HurdleShown, Lending, Listed, Unless, flow_answer, tallies_answer, test_flow, test_hurdle, total_answer}
+use Rattle.planner.specs.Readings.{CrossingSeen, CutSeen, CutShown, Filled, HurdleSeen, HurdleShown, Lending, Listed, Unless, flow_answer, test_flow, test_hurdle, total_answer}
 use Rattle.planner.specs.Standing.{Sound, Stand, arcs_in, no_tally, plant_in}
 use Rattle.planner.specs.Views.{View, view}
 use Rattle.planner.proofs.Laws.{flow_lines}
 use Rattle.plant.specs.declared.decline.Decline.{Decline}
-use Rattle.plant.specs.declared.decline.Decline.TheVariants.{BufferLength, LineNumber, NoFlow, NoHurdle, NothingSettled}
+use Rattle.plant.specs.declared.decline.Decline.TheVariants.{BufferLength, LineNumber}
 use Rattle.plant.specs.declared.line.Line.{Line}
 use Rattle.plant.specs.Held.{flows_of, lines_of}
 use Rattle.plant.specs.Plants as plants

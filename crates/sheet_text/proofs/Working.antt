@@ -1,5 +1,5 @@
 -- A planner that works until it is settled.
-use Rattle.std.proofs.Common.{◌≡◌, ℕ, ◌+◌, ◌-◌, ◌<◌, true, false, Option, refl, ap, ◌∙◌, arith, length-take}
+use Rattle.std.proofs.Common.{◌≡◌, ℕ, ◌+◌, ◌<◌, true, false, Option, refl, ap, ◌∙◌, arith, length-take}
 use Rattle.chooser.specs.declared.fifo.Fifo.{Fifo}
 use Rattle.chooser.specs.FifoCalls.{holds}
 use Rattle.std.proofs.lemmas.Bool.{both_ways}

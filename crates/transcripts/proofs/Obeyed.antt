@@ -5,7 +5,7 @@ use Rattle.first.specs.Theorems.{uneven}
 use Rattle.law.proofs.Settled.{widening_derived}
 use Rattle.law.proofs.Steps.{accepts}
 use Rattle.law.specs.declared.script.Answer.TheVariants as told
-use Rattle.law.specs.declared.script.Call.TheVariants.{Flow, Start, Trial}
+use Rattle.law.specs.declared.script.Call.TheVariants.{Start, Trial}
 use Rattle.law.specs.declared.script.Given.{Given}
 use Rattle.law.specs.Law.{Follows, Run, Settles}
 use Rattle.law.specs.Phases.{Counts, Limited, Phase, Plan, Question, Solved, blocked, flowing, idle, no_counts, question, tried, working}

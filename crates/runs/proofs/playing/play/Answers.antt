@@ -1,5 +1,5 @@
 use Rattle.std.proofs.Common.{◌≡◌, List, ◌++◌, length, take, drop, Some, Ok, sym, refl, ap, ◌∙◌, subst}
-use Rattle.law.specs.declared.script.Call.TheVariants.{Crossing, Cut, Flow, Hurdle, Start, Tallies, Total, Trial, Work}
+use Rattle.law.specs.declared.script.Call.TheVariants.{Cut, Flow, Hurdle, Tallies, Total}
 use Rattle.plant.specs.declared.line.Line.{Line}
 use Rattle.planner.specs.declared.machine.State.{State}
 use Rattle.planner.specs.Calls.{Starts, Trials}

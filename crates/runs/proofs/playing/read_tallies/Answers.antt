@@ -1,4 +1,4 @@
-use Rattle.std.proofs.Common.{sym, ap, ◌∙◌}
+use Rattle.std.proofs.Common.{ap, ◌∙◌}
 use Rattle.law.specs.declared.script.Answer.TheVariants as told
 use Rattle.planner.specs.declared.answer.Tally.{Tally}
 use Rattle.runs.proofs.Told.{tallies_told}

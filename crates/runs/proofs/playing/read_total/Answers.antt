@@ -1,7 +1,3 @@
-use Rattle.std.proofs.Common.{sym}
-use Rattle.law.specs.declared.script.Answer.{Answer}
-use Rattle.law.specs.declared.script.Call.TheVariants.{Total}
-use Rattle.law.specs.Law.{Follows}
 use Rattle.runs.proofs.Told.{total_told}
 use Rattle.runs.proofs.playing.read_total.Goals as goal
 

@@ -1,14 +1,12 @@
-use Rattle.std.proofs.Common.{◌≡◌, ◌<◌, List, length, get_or, take, set, vec_items, sym, refl, ◌∙◌, subst, arith}
+use Rattle.std.proofs.Common.{◌≡◌, ◌<◌, List, length, get_or, vec_items, ◌∙◌, subst, arith}
 use Rattle.law.proofs.Promised.{law_promises}
-use Rattle.law.specs.declared.script.Answer.{Answer}
 use Rattle.law.specs.declared.script.Call.{Call}
 use Rattle.law.specs.declared.script.Call.TheVariants.{Tallies}
-use Rattle.law.specs.Law.{Run, beside}
-use Rattle.law.specs.Phases.{idle}
+use Rattle.law.specs.Law.{beside}
 use Rattle.std.proofs.lemmas.List.{get_or_default, take_all}
 use Rattle.std.proofs.lemmas.Result.{err_from_is_err_and}
-use Rattle.runs.specs.Played.{Played, SameCall, SameCalls}
-use Rattle.runs.proofs.Grows.{Running, Sofar, running_more, running_new, sofar_more, sofar_none, sofar_same}
+use Rattle.runs.specs.Played.{Played, SameCall}
+use Rattle.runs.proofs.Grows.{Running, running_more, running_new, sofar_more, sofar_none, sofar_same}
 use Rattle.runs.proofs.Steps.{Lawful}
 use Rattle.runs.proofs.replaying.replay.Goals as goal
 

@@ -1,4 +1,4 @@
-use Rattle.std.proofs.Common.{◌≡◌, ◌≤◌, length, take, vec_items, vec_len}
+use Rattle.std.proofs.Common.{◌≡◌, take, vec_items, vec_len}
 use Rattle.law.specs.Law.{beside}
 use Rattle.planner.specs.Standing.{Sound}
 use Rattle.runs.proofs.Grows.{Running, Sofar}
