@@ -2,7 +2,6 @@
 ghost use Rattle.std.specs.Prelude.{◌≤◌};
 
 use super::answer::Tally;
-use chooser::Chooser;
 use plant::{HeldLine, HeldPlant};
 use preflow::{HELD_LINES, Rows};
 

@@ -31,7 +31,7 @@ fn shifted(line: Line) -> HeldLine
 
 // The plant's lines in stage one.
 fn shift_lines(lines: &[Line], held: &mut [HeldLine; HELD_LINES])
-    requires { (length lines.now ≤ 1000) × (((k : ℕ) → k < length lines.now → Fine 250 (slice_index_or lines.now k no_line))) }
+    requires { (length lines.now ≤ 1000) × ((k : ℕ) → k < length lines.now → Fine 250 (slice_index_or lines.now k no_line)) }
     ensures { arcs (take (length lines.now) held.new) ≡ map empty_arc (map shifted lines.now) }
 {
     for k in 0..lines.len() {
@@ -41,7 +41,7 @@ fn shift_lines(lines: &[Line], held: &mut [HeldLine; HELD_LINES])
 
 // An added line with no flow.
 fn added(from: u8, to: u8, high: u32) -> HeldLine
-    requires { (from < 252) × ((to < 252) × ((from ≢ to))) }
+    requires { (from < 252) × ((to < 252) × (from ≢ to)) }
     ensures { arc result ≡ empty_arc (added_line from to high) }
 {
     HeldLine {
@@ -71,7 +71,7 @@ fn surplus_line(n: u8, v: u8, surplus: i64) -> Option<HeldLine>
 
 // Adds the lines of the junctions' surpluses after the first `start` lines; answers the number of all lines.
 fn add_surpluses(n: u8, lines: &[Line], held: &mut [HeldLine; HELD_LINES], start: usize) -> usize
-    requires { (length lines.now ≤ 1000) × ((((k : ℕ) → k < length lines.now → Fine 250 (slice_index_or lines.now k no_line))) × ((n ≤ 250) × (start ≤ 1001))) }
+    requires { (length lines.now ≤ 1000) × (((k : ℕ) → k < length lines.now → Fine 250 (slice_index_or lines.now k no_line)) × ((n ≤ 250) × (start ≤ 1001))) }
     ensures lines { arcs (take result held.new) ≡ arcs (take start held.old) ++ map empty_arc (surplus_lines n lines.now n) }
     ensures few { result ≤ 1251 }
 {
@@ -112,7 +112,7 @@ fn settled(line: Line, found: u32) -> HeldLine
 
 // The plant's lines in stage two.
 fn settle_lines(lines: &[Line], held: &mut [HeldLine; HELD_LINES])
-    requires { (length lines.now ≤ 1000) × ((((k : ℕ) → k < length lines.now → Fine 250 (slice_index_or lines.now k no_line))) × (lines_of (arcs (take (length lines.now) held.old)) ≡ map shifted lines.now)) }
+    requires { (length lines.now ≤ 1000) × (((k : ℕ) → k < length lines.now → Fine 250 (slice_index_or lines.now k no_line)) × (lines_of (arcs (take (length lines.now) held.old)) ≡ map shifted lines.now)) }
     ensures { arcs (take (length lines.now) held.new) ≡ second_arcs lines.now (arcs (take (length lines.now) held.old)) }
 {
     for k in 0..lines.len() {

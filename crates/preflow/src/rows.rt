@@ -94,8 +94,8 @@ pub fn any_active(stage: Stage, rows: &Rows) -> bool
 
 /// The excess of a row grows by `amount`.
 pub fn grow(row: &mut Row, amount: i64)
-    requires pos_bound { (neg_ℤ (pos (2 ^ 50)) ≤ℤ row.old.excess) × (row.old.excess ≤ℤ pos (2 ^ 50)) }
-    requires pos_bound_2 { (neg_ℤ (pos (2 ^ 32)) ≤ℤ amount) × (amount ≤ℤ pos (2 ^ 32)) }
+    requires excess { (neg_ℤ (pos (2 ^ 50)) ≤ℤ row.old.excess) × (row.old.excess ≤ℤ pos (2 ^ 50)) }
+    requires amount { (neg_ℤ (pos (2 ^ 32)) ≤ℤ amount) × (amount ≤ℤ pos (2 ^ 32)) }
     ensures { row.new ≡ grown amount row.old }
 {
     row.excess += amount;
@@ -118,7 +118,7 @@ pub fn relabel(rows: &mut [Row], v: u8, label: u32)
 
 /// Excess goes from the row of `v` to the row of `w`.
 pub fn send(rows: &mut [Row], v: u8, w: u8, amount: u32)
-    requires { (v < length rows.old) × ((w < length rows.old) × (((v ≢ w)) × (Bounded (2 ^ 40) rows.old))) }
+    requires { (v < length rows.old) × ((w < length rows.old) × ((v ≢ w) × (Bounded (2 ^ 40) rows.old))) }
     ensures { rows.new ≡ sent v w amount rows.old }
 {
     let amount = amount as i64;

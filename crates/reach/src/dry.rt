@@ -27,7 +27,7 @@ pub fn dry_junctions(
     places: &mut [u8],
     out: &mut [u8],
 ) -> Result<u16, Decline>
-    ensures { Dried n lines.now (record { places = places.entry.now; bytes = out.old }) (record { places = places.exit.now; bytes = out.new }) result (test_dry n lines.now (length places.entry.now) (length out.old)) }
+    ensures { Dried n lines.now (record { places = places.old; bytes = out.old }) (record { places = places.new; bytes = out.new }) result (test_dry n lines.now (length places.old) (length out.old)) }
 {
     test_list(n, lines)?;
     if places.len() < n as usize || out.len() < 32 {

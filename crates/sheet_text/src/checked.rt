@@ -22,8 +22,8 @@ fn test_trials(count: usize, waiting: &Queue<Trial>) -> Result<(), Decline>
     Ok(())
 }
 
-/// Reads a file, and tests its list and then its trials.
-pub fn read_checked(
+// Reads a file, and tests its list and then its trials.
+pub(super) fn read_checked(
     file: &[u8],
     lines: &mut [Line; MAX_LINES],
     waiting: &mut Queue<Trial>,

@@ -118,7 +118,7 @@ pub fn write_text(file: &[u8], out: &mut [u8]) -> Result<usize, Decline>
     }
 }
 
-/// For C: the listing of a file, its length or the number of the decline as a negative.
+/// What C is answered: the listing of a file, its length or the number of the decline as a negative.
 pub fn widgulp_listing(file: &[u8], out: &mut [u8]) -> i64
     ensures { ListedNumber (checked file.now) out.old result out.new }
 {

@@ -1,5 +1,5 @@
 //! A planner is run to the end, and read.
-ghost use Rattle.std.specs.Prelude.{◌≡◌, ℕ, ◌^◌, ◌<◌, true, length, take, pos, MatchResult};
+ghost use Rattle.std.specs.Prelude.{◌≡◌, ℕ, ◌^◌, ◌<◌, ◌≤◌, true, length, take, pos, MatchResult, OnOk, slice_index};
 ghost use Rattle.chooser.specs.FifoCalls.{holds};
 ghost use Rattle.plant.specs.Held.{flows_of, marked};
 ghost use Rattle.plant.specs.Plants as plants;
@@ -19,8 +19,8 @@ use reach::JunctionSet;
 // The most that one work may ask for.
 const WORK: u32 = 60_000;
 
-/// Works until the question is settled.
-pub fn settle(planner: &mut Planner<Fifo>) -> Result<Outcome, Decline>
+// Works until the question is settled.
+pub(super) fn settle(planner: &mut Planner<Fifo>) -> Result<Outcome, Decline>
     requires { (Sound holds planner.old) × (in_work planner.old.state ≡ true) }
     ensures sound { Sound holds planner.new }
     ensures plant { planner.new.plant ≡ planner.old.plant }
@@ -34,8 +34,8 @@ pub fn settle(planner: &mut Planner<Fifo>) -> Result<Outcome, Decline>
     }
 }
 
-/// The total of the settled flow, which is not below zero.
-pub fn read_total(planner: &Planner<Fifo>) -> Result<u64, Decline>
+// The total of the settled flow, which is not below zero.
+pub(super) fn read_total(planner: &Planner<Fifo>) -> Result<u64, Decline>
     requires { (Sound holds planner.now) × (planner.now.state ≡ SettledFlow) }
     ensures { MatchResult result (λ x. (plants.total (plant_in planner.now) (flows_of (arcs_in planner.now)) ≡ pos x) × (x < 2 ^ 32)) (λ _. ⊥) }
 {
@@ -43,10 +43,11 @@ pub fn read_total(planner: &Planner<Fifo>) -> Result<u64, Decline>
     Ok(total.unsigned_abs())
 }
 
-/// The settled flow, a place for each line.
-pub fn read_flows(planner: &Planner<Fifo>, flows: &mut [u32]) -> Result<(), Decline>
+// The settled flow, a place for each line.
+pub(super) fn read_flows(planner: &Planner<Fifo>, flows: &mut [u32]) -> Result<(), Decline>
     requires { (Sound holds planner.now) × ((planner.now.state ≡ SettledFlow) × (length flows.old ≡ length (plant_in planner.now).lines)) }
-    ensures { MatchResult result (λ _. flows.new ≡ flows_of (arcs_in planner.now)) (λ _. ⊥) }
+    ensures flows { MatchResult result (λ _. flows.new ≡ flows_of (arcs_in planner.now)) (λ _. ⊥) }
+    ensures small { OnOk result ((k : ℕ) → k < length flows.new → slice_index flows.new k ≤ 1000000) }
 {
     for k in 0..flows.len() {
         let flow = planner.flow(k as u16)?;
@@ -67,8 +68,8 @@ fn marks_of(bytes: &[u8; 32]) -> Marks
     marks
 }
 
-/// The near or the far cut of the settled flow, as marks below the number of junctions.
-pub fn read_cut(planner: &Planner<Fifo>, side: Side) -> Result<Marks, Decline>
+// The near or the far cut of the settled flow, as marks below the number of junctions.
+pub(super) fn read_cut(planner: &Planner<Fifo>, side: Side) -> Result<Marks, Decline>
     requires { (Sound holds planner.now) × (planner.now.state ≡ SettledFlow) }
     ensures { MatchResult result (λ marks. Extreme side planner.now.plant.aim (plant_in planner.now) (marked (take planner.now.plant.n marks))) (λ _. ⊥) }
 {
@@ -77,8 +78,8 @@ pub fn read_cut(planner: &Planner<Fifo>, side: Side) -> Result<Marks, Decline>
     Ok(marks_of(&bytes))
 }
 
-/// The hurdle of the impossible plant, as marks below the number of junctions, and its shortfall.
-pub fn read_hurdle(planner: &Planner<Fifo>) -> Result<(Marks, u64), Decline>
+// The hurdle of the impossible plant, as marks below the number of junctions, and its shortfall.
+pub(super) fn read_hurdle(planner: &Planner<Fifo>) -> Result<(Marks, u64), Decline>
     requires { (Sound holds planner.now) × (planner.now.state ≡ SettledImpossible) }
     ensures worst { MatchResult result (λ x. WorstHurdle (plant_in planner.now) (marked (take planner.now.plant.n x.0))) (λ _. ⊥) }
     ensures shortfall { MatchResult result (λ x. (x.1 ≡ shortfall (plant_in planner.now) (marked (take planner.now.plant.n x.0))) × (x.1 < 2 ^ 32)) (λ _. ⊥) }

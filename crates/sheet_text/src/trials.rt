@@ -47,8 +47,8 @@ fn try_one(
     })
 }
 
-/// Tries the trials that wait, first to last; answers how many.
-pub fn try_all(
+// Tries the trials that wait, first to last; answers how many.
+pub(super) fn try_all(
     planner: &mut Planner<Fifo>,
     heading: &Heading,
     lines: &mut [Line],

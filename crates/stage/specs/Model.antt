@@ -1,5 +1,5 @@
 -- A stage on lists: lines with their flows, rows with excess and label, and what a discharge does.
-use Rattle.std.specs.Prelude.{ℕ, zero, suc, ◌+◌, ◌*◌, min, Bool, cond, not, ◌&&◌, List, [], ◌∷◌, ◌++◌, get_or, ℤ, pos, ◌+ℤ◌, ◌-ℤ◌, neg_ℤ, ◌==◌, nat_lt, slice_index_or, slice_set}
+use Rattle.std.specs.Prelude.{ℕ, zero, suc, ◌+◌, ◌*◌, min, Bool, cond, not, ◌&&◌, List, [], ◌∷◌, ◌++◌, ℤ, pos, ◌+ℤ◌, ◌-ℤ◌, neg_ℤ, ◌==◌, nat_lt, slice_index_or, slice_set}
 use borrow.Author.Differences.{up}
 use Rattle.plant.specs.Plants.{carried, leaves, ends}
 use Rattle.plant.specs.Held.{Arc, lines_of, flows_of, residual, other, shift}
@@ -11,10 +11,10 @@ row0 = record { excess = pos 0; label = 0 }
 
 -- the excess of u, and its label
 abbrev pub exc : List Row → ℕ → ℤ
-exc rs u = (get_or rs u row0).excess
+exc rs u = (slice_index_or rs u row0).excess
 
 abbrev pub lab : List Row → ℕ → ℕ
-lab rs u = (get_or rs u row0).label
+lab rs u = (slice_index_or rs u row0).label
 
 -- whether u has excess and is neither the start nor the goal
 unfoldable pub active : ℕ → ℕ → List Row → ℕ → Bool

@@ -1,5 +1,5 @@
 -- The test of a row: each definition, computed over all sets of junctions.
-use Rattle.std.specs.Prelude.{◌≡◌, ℕ, zero, suc, Bool, true, false, not, ◌&&◌, ◌||◌, ltb, List, [], ◌∷◌, length, ℤ, Some, None, Option, ◌==◌, int_le, nat_le, nat_lt}
+use Rattle.std.specs.Prelude.{◌≡◌, ℕ, zero, suc, Bool, true, false, not, ◌&&◌, ◌||◌, List, [], ◌∷◌, length, ℤ, Some, None, Option, ◌==◌, int_le, nat_le, nat_lt}
 use Rattle.plant.specs.declared.aim.Aim.{Aim}
 use Rattle.plant.specs.declared.aim.Aim.TheVariants.{Greatest, Least}
 use Rattle.plant.specs.Plants.{bound, high_of, Junctions, leads_in, leads_out, low_of, Plant, shortfall, summed}
@@ -92,7 +92,7 @@ checks_worst P s S =
 
 -- each number of the list is below n
 abbrev pub all_below : ℕ → List ℕ → Bool
-all_below n vs = each (λ v. ltb v n) vs
+all_below n vs = each (λ v. nat_lt v n) vs
 
 -- the sets of an answer, of junctions of the plant
 abbrev pub checks_sets : Aim → Plant → Answer → Bool

@@ -15,7 +15,7 @@ put_flow_sheet-requires c =
     let z : m ≡ m - 0 = omega arith in
     record {
       total = c.in_ok-total.ensures.1;
-      flows = small_flows p c.read_flows.new.flows c.requires.asks.sound c.requires.settled c.in_ok-read_flows.ensures;
+      flows = small_flows p c.read_flows.new.flows c.requires.asks.sound c.requires.settled c.in_ok-read_flows.ensures.flows;
       cuts = (few_marks c.args.heading.now.n c.in_ok-near.near n, few_marks c.args.heading.now.n c.in_ok-far.far n);
       trials = subst (λ (i : ℕ). SmallTrials (take i c.try_all.new.tried)) z c.in_ok-count.ensures.tried.1;
       room = c.requires.room;
@@ -31,5 +31,5 @@ returns c =
     let wide₂ : length c.in_ok-far.far ≡ 256 = search rules in
     let all = subst (λ (i : ℕ). TriedAll k.aim (plant_told k) k.trials (take i c.try_all.new.tried)) z c.in_ok-count.ensures.tried.0 in
     let s = flow_sheet k p c.requires.asks c.requires.settled c.in_ok-total.total c.read_flows.new.flows c.in_ok-near.near c.in_ok-far.far (take (m - 0) c.try_all.new.tried)
-    c.in_ok-total.ensures.0 c.in_ok-read_flows.ensures wide c.in_ok-near.ensures wide₂ c.in_ok-far.ensures all in
+    c.in_ok-total.ensures.0 c.in_ok-read_flows.ensures.flows wide c.in_ok-near.ensures wide₂ c.in_ok-far.ensures all in
     sheet_put k _ c.args.out.now c.put_flow_sheet.new.out c.put_flow_sheet.result s c.put_flow_sheet.ensures.short c.put_flow_sheet.ensures.text
