@@ -98,7 +98,7 @@ held_fine n a ls xs x e h =
     at k j = sym (get_or-take (length ls) xs k no_line j) ∙ ap (λ (ys : List Line). get_or ys k no_line) h
 
 -- an aim, and a list that fails
-pub fails_after_aim : (o : Option Aim) (t : Option Decline) (a : Aim) (d : Decline) → Some a ≡ o → Err d ≡ pass t →
+pub fails_after_aim : (o : Option Aim) (t : Option Decline) (a : Aim) (d : Decline) → ◌≡◌ {A = Result Aim Decline} (Ok a) (elim o [ Some aim ↦ Ok aim | None ↦ Err AimNumber ]) → Err d ≡ pass t →
     ◌≡◌ {A = Result Aim Decline} (Err d) (elim o [ Some aim ↦ unless t aim | None ↦ Err AimNumber ])
 fails_after_aim (Some b) (Some x) a d e f = cc
 fails_after_aim (Some b) None a d e f = absurd (let z : ◌≡◌ {A = ℕ} 0 1 = cc in omega arith)

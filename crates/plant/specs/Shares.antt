@@ -26,8 +26,12 @@ abbrev pub added : {X : Type 0} → (X → ℤ) → List X → ℤ
 added g [] = pos 0
 added g (x ∷ xs) = g x +ℤ added g xs
 
--- a loop that adds up g over xs stands before place i with this sum
-pub record Adding {X : Type 0} (g : X → ℤ) (xs : List X) (i : ℕ) (sum : ℤ) : Type 0 where
-  pub left : sum +ℤ added g (drop i xs) ≡ added g xs
+-- what gives answers for an item can only be its number by g
+abbrev pub Tells : {X : Type 0} → (X → ℤ → Type 0) → (X → ℤ) → Type 0
+Tells gives g = (x : _) (z : ℤ) → gives x z → z ≡ g x
+
+-- a loop that adds up what gives answers over xs stands before place i with this sum
+pub record Adds {X : Type 0} (gives : X → ℤ → Type 0) (xs : List X) (i : ℕ) (sum : ℤ) : Type 0 where
+  pub left : (g : X → ℤ) → Tells gives g → sum +ℤ added g (drop i xs) ≡ added g xs
   pub above : neg_ℤ (pos (4294967296 * i)) ≤ℤ sum
   pub below : sum ≤ℤ pos (4294967296 * i)

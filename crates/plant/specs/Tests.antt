@@ -10,6 +10,10 @@ use Rattle.plant.specs.declared.line.Line.{Line}
 abbrev pub aim_numbered : ℕ → Option Aim
 aim_numbered a = cond (a == 1) (Some Greatest) (cond (a == 2) (Some Least) None)
 
+-- the aim of a number, or the decline of the test of the aim
+abbrev pub numbered : ℕ → Result Aim Decline
+numbered a = elim (aim_numbered a) [ Some aim ↦ Ok aim | None ↦ Err AimNumber ]
+
 -- declines by d where the test fails, and else goes on
 abbrev pub test : Decline → Bool → Option Decline → Option Decline
 test d fails on = cond fails (Some d) on

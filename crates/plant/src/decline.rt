@@ -2,6 +2,7 @@
 ghost use Rattle.std.specs.Prelude.{◌≡◌, ◌++◌, Some, codes, decimal};
 ghost use Rattle.plant.specs.Numbers.{number_of};
 
+use std::error::Error;
 use std::fmt;
 
 /// The first test that failed.
@@ -43,12 +44,12 @@ pub enum Decline {
     NoHurdle,
 }
 
-impl Decline {
-    /// The number of the test.
-    pub fn number(&self) -> u8
-        ensures { result ≡ number_of self.now }
-    {
-        match self {
+/// The number of the test.
+impl From<Decline> for u8 {
+    ghost from_gives = { λ decline number. number ≡ number_of decline };
+
+    fn from(decline: Decline) -> u8 {
+        match decline {
             Decline::AimNumber => 1,
             Decline::JunctionCount => 2,
             Decline::LineCount => 3,
@@ -74,7 +75,9 @@ impl fmt::Display for Decline {
     ghost output = { λ d. Some (codes "DECLINED " ++ decimal (number_of d)) };
 
     fn fmt<W: fmt::Write>(&self, f: &mut fmt::Formatter<W>) -> fmt::Result {
-        let number = self.number();
+        let number = u8::from(*self);
         write!(f, "DECLINED {number}")
     }
 }
+
+impl Error for Decline {}

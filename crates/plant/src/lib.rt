@@ -13,9 +13,8 @@ mod worked;
 pub use aim::Aim;
 pub use decline::Decline;
 pub use held::HeldLine;
-pub use held::calls::BLANK_HELD;
 pub use held_plant::HeldPlant;
-pub use line::{BLANK_LINE, Line};
+pub use line::{Line, Trial};
 pub use list::{
     MAX_JUNCTIONS, MAX_LIMIT, MAX_LINES, test_limits, test_list, test_plant, test_trial,
 };

@@ -1,7 +1,7 @@
-//! A line of a plant.
+//! A line of a plant, and a trial of other limits on one.
 
 /// A line with its smallest and its largest flow, in whole litres an hour.
-#[derive(Clone, Copy, PartialEq, Eq, Debug)]
+#[derive(Clone, Copy, PartialEq, Eq, Debug, Default)]
 pub struct Line {
     pub from: u8,
     pub to: u8,
@@ -9,10 +9,10 @@ pub struct Line {
     pub high: u32,
 }
 
-/// Fills a place that holds no line yet.
-pub const BLANK_LINE: Line = Line {
-    from: 0,
-    to: 0,
-    low: 0,
-    high: 0,
-};
+/// Other limits for one line.
+#[derive(Clone, Copy, PartialEq, Eq, Debug, Default)]
+pub struct Trial {
+    pub line: u16,
+    pub low: u32,
+    pub high: u32,
+}

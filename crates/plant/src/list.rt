@@ -4,7 +4,7 @@ ghost use Rattle.plant.specs.Tests.{bad_direction, bad_ends, bad_limits, test_li
 
 use super::aim::Aim;
 use super::decline::Decline;
-use super::line::Line;
+use super::line::{Line, Trial};
 
 /// The most junctions of a plant.
 pub const MAX_JUNCTIONS: u8 = 250;
@@ -86,19 +86,17 @@ pub fn test_list(n: u8, lines: &[Line]) -> Result<(), Decline>
 pub fn test_plant(n: u8, lines: &[Line], aim: u8) -> Result<Aim, Decline>
     ensures { result ≡ tested n lines.now aim }
 {
-    let Some(aim) = Aim::from_number(aim) else {
-        return Err(Decline::AimNumber);
-    };
+    let aim = Aim::try_from(aim)?;
     test_list(n, lines)?;
     Ok(aim)
 }
 
 /// The tests of a trial's own numbers on a list of `count` lines.
-pub fn test_trial(count: usize, line: u16, low: u32, high: u32) -> Result<(), Decline>
-    ensures { result ≡ pass (test_trial count line low high) }
+pub fn test_trial(count: usize, trial: &Trial) -> Result<(), Decline>
+    ensures { result ≡ pass (test_trial count trial.now.line trial.now.low trial.now.high) }
 {
-    if line as usize >= count {
+    if usize::from(trial.line) >= count {
         return Err(Decline::LineNumber);
     }
-    test_limits(low, high)
+    test_limits(trial.low, trial.high)
 }

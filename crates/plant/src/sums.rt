@@ -1,8 +1,9 @@
 //! Sums over the lines of a plant.
-ghost use Rattle.std.specs.Prelude.{◌≡◌, ◌^◌, ◌<◌, ◌≤◌, length, pos, neg_ℤ, ◌≤ℤ◌};
+ghost use Rattle.std.specs.Prelude.{◌≡◌, ◌^◌, ◌<◌, ◌≤◌, length, ℤ, pos, neg_ℤ, ◌≤ℤ◌, sum_by};
+ghost use Rattle.std.specs.Fn.{FnReturnsAt};
 ghost use Rattle.plant.specs.Held.{arc, arcs, flows_of, lines_of, marked};
-ghost use Rattle.plant.specs.Plants.{backward, bound_over, every, forward, high_of, leads_in, leads_out, list_total, shortfall_over, summed, surplus};
-ghost use Rattle.plant.specs.Shares.{at_header, at_junction, Small, share};
+ghost use Rattle.plant.specs.Plants.{backward, bound_over, every, forward, high_of, leads_out, list_total, shortfall_over, summed, surplus};
+ghost use Rattle.plant.specs.Shares.{added, at_header, at_junction, Small, share, Tells};
 
 use super::aim::Aim;
 use super::held::HeldLine;
@@ -11,6 +12,20 @@ use super::line::Line;
 /// A set of junctions, a mark for each number that a byte can hold.
 pub type Marks = [bool; 256];
 
+// Adds up what each item of a list gives.
+fn sum_of<T, F: Fn(&T) -> i64>(items: &[T], gives: F) -> i64
+    requires few { length items.now ≤ 65536 }
+    requires callable { F.IsAlwaysCallable gives }
+    requires small { (x : T) (z : ℤ) → FnReturnsAt F.Fn gives x z → Small z }
+    ensures { (g : T → ℤ) → Tells (FnReturnsAt F.Fn gives) g → result ≡ added g items.now }
+{
+    let mut sum: i64 = 0;
+    for item in items {
+        sum += gives(item);
+    }
+    sum
+}
+
 /// Whether the line leads out of the set.
 pub fn crosses(line: &Line, set: &Marks) -> bool
     ensures { result ≡ leads_out (marked set.now) line.now }
@@ -18,30 +33,13 @@ pub fn crosses(line: &Line, set: &Marks) -> bool
     set[line.from as usize] && !set[line.to as usize]
 }
 
-// Whether the line leads into the set.
-fn enters(line: &Line, set: &Marks) -> bool
-    ensures { result ≡ leads_in (marked set.now) line.now }
-{
-    set[line.to as usize] && !set[line.from as usize]
-}
-
-// The limit that counts of a line that leads out.
-fn forward_limit(aim: Aim, line: &Line) -> u32
-    ensures { result ≡ forward aim line.now }
+// The limits that count of a line that leads out and of one that leads in.
+fn counted_limits(aim: Aim, line: &Line) -> (u32, u32)
+    ensures { result ≡ (forward aim line.now, backward aim line.now) }
 {
     match aim {
-        Aim::Greatest => line.high,
-        Aim::Least => line.low,
-    }
-}
-
-// The limit that counts of a line that leads in.
-fn backward_limit(aim: Aim, line: &Line) -> u32
-    ensures { result ≡ backward aim line.now }
-{
-    match aim {
-        Aim::Greatest => line.low,
-        Aim::Least => line.high,
+        Aim::Greatest => (line.high, line.low),
+        Aim::Least => (line.low, line.high),
     }
 }
 
@@ -50,12 +48,11 @@ fn bound_share(aim: Aim, line: &Line, set: &Marks) -> i64
     ensures value { result ≡ share aim (marked set.now) line.now }
     ensures small { Small result }
 {
-    if crosses(line, set) {
-        forward_limit(aim, line) as i64
-    } else if enters(line, set) {
-        -(backward_limit(aim, line) as i64)
-    } else {
-        0
+    let (forward, backward) = counted_limits(aim, line);
+    match (set[line.from as usize], set[line.to as usize]) {
+        (true, false) => i64::from(forward),
+        (false, true) => -i64::from(backward),
+        _ => 0,
     }
 }
 
@@ -65,11 +62,7 @@ pub fn bound(aim: Aim, lines: &[Line], set: &Marks) -> i64
     requires { length lines.now ≤ 1000 }
     ensures { result ≡ bound_over aim lines.now (marked set.now) }
 {
-    let mut sum: i64 = 0;
-    for line in lines {
-        sum += bound_share(aim, line, set);
-    }
-    sum
+    sum_of(lines, |line| bound_share(aim, line, set))
 }
 
 /// The shortfall of a set: by how much the lows that lead in exceed the highs that lead out.
@@ -77,8 +70,7 @@ pub fn shortfall(lines: &[Line], set: &Marks) -> u64
     requires { length lines.now ≤ 1000 }
     ensures { result ≡ shortfall_over lines.now (marked set.now) }
 {
-    let bound = bound(Aim::Greatest, lines, set);
-    if bound < 0 { bound.unsigned_abs() } else { 0 }
+    bound(Aim::Greatest, lines, set).min(0).unsigned_abs()
 }
 
 // What the line adds to the surplus of a junction.
@@ -86,8 +78,12 @@ fn surplus_share(line: &Line, v: u8) -> i64
     ensures value { result ≡ at_junction v line.now }
     ensures small { Small result }
 {
-    let comes = if line.to == v { line.low as i64 } else { 0 };
-    let goes = if line.from == v { line.low as i64 } else { 0 };
+    let comes = if line.to == v { i64::from(line.low) } else { 0 };
+    let goes = if line.from == v {
+        i64::from(line.low)
+    } else {
+        0
+    };
     comes - goes
 }
 
@@ -96,11 +92,7 @@ pub fn surplus_at(lines: &[Line], v: u8) -> i64
     requires { length lines.now ≤ 1000 }
     ensures { result ≡ surplus lines.now v }
 {
-    let mut sum: i64 = 0;
-    for line in lines {
-        sum += surplus_share(line, v);
-    }
-    sum
+    sum_of(lines, |line| surplus_share(line, v))
 }
 
 // What the line adds to the total.
@@ -109,12 +101,12 @@ fn total_share(held: &HeldLine) -> i64
     ensures small { Small result }
 {
     let goes = if held.line.from == 0 {
-        held.flow as i64
+        i64::from(held.flow)
     } else {
         0
     };
     let comes = if held.line.to == 0 {
-        held.flow as i64
+        i64::from(held.flow)
     } else {
         0
     };
@@ -126,11 +118,7 @@ pub fn total_of(lines: &[HeldLine]) -> i64
     requires { length lines.now ≤ 65536 }
     ensures { result ≡ list_total (lines_of (arcs lines.now)) (flows_of (arcs lines.now)) }
 {
-    let mut sum: i64 = 0;
-    for held in lines {
-        sum += total_share(held);
-    }
-    sum
+    sum_of(lines, total_share)
 }
 
 /// The sum of all highs.
@@ -138,9 +126,5 @@ pub fn sum_of_highs(lines: &[Line]) -> u64
     requires { length lines.now ≤ 1000 }
     ensures { result ≡ summed every high_of lines.now }
 {
-    let mut sum: u64 = 0;
-    for line in lines {
-        sum += line.high as u64;
-    }
-    sum
+    lines.iter().map(|line| u64::from(line.high)).sum()
 }

@@ -2,8 +2,6 @@
 ghost use Rattle.plant.specs.Example.{Worked};
 
 /// A small plant has the flow, the totals and the bounds that one works out by hand.
-pub fn worked_plant() -> u8
+pub fn worked_plant()
     ensures { Worked }
-{
-    0
-}
+{}

@@ -5,16 +5,18 @@ ghost use Rattle.plant.specs.Held.{arc, other, residual, shift};
 use super::super::line::Line;
 use super::HeldLine;
 
-/// Fills a place that holds no line yet.
-pub const BLANK_HELD: HeldLine = HeldLine {
-    line: Line {
-        from: 0,
-        to: 1,
-        low: 0,
-        high: 0,
-    },
-    flow: 0,
-};
+/// Fills a place that holds no line yet: from the header to the tank, where nothing can go.
+impl Default for HeldLine {
+    ghost is_default = { λ h. arc h ≡ record { line = record { from = 0; to = 1; low = 0; high = 0 }; flow = 0 } };
+
+    fn default() -> HeldLine {
+        let line = Line {
+            to: 1,
+            ..Line::default()
+        };
+        HeldLine { line, flow: 0 }
+    }
+}
 
 impl HeldLine {
     /// How much more can go from `v` by this line: up to its high if it leaves `v`, back to its low if it ends there.

@@ -1,5 +1,5 @@
 //! How a plant is held, and what is read off it.
-ghost use Rattle.std.specs.Prelude.{◌≡◌, ℕ, ◌<◌, ◌≤◌, [], length, take, Ok, Err, MatchResult, slice_index_or};
+ghost use Rattle.std.specs.Prelude.{◌≡◌, ℕ, ◌<◌, ◌≤◌, [], length, Ok, Err, MatchResult, slice_index_or};
 ghost use Rattle.plant.specs.declared.aim.Aim.TheVariants.{Greatest};
 ghost use Rattle.plant.specs.Fine.{Fine};
 ghost use Rattle.plant.specs.Held.{plant_of};
@@ -8,19 +8,10 @@ ghost use Rattle.plant.specs.Tests.{tested};
 
 use super::super::aim::Aim;
 use super::super::decline::Decline;
-use super::super::line::{BLANK_LINE, Line};
-use super::super::list::{MAX_LINES, test_plant};
+use super::super::line::Line;
+use super::super::list::test_plant;
 use super::HeldPlant;
-
-// The list in a fixed block, blank lines after it.
-fn copied(lines: &[Line]) -> [Line; MAX_LINES]
-    requires { length lines.now ≤ 1000 }
-    ensures { take (length lines.now) result ≡ lines.now }
-{
-    let mut held = [BLANK_LINE; MAX_LINES];
-    held[0..lines.len()].copy_from_slice(lines);
-    held
-}
+use arrayvec::ArrayVec;
 
 impl HeldPlant {
     /// Copies a list, or declines it by the first test that fails.
@@ -28,12 +19,12 @@ impl HeldPlant {
         ensures { MatchResult result (λ p. (tested n lines.now aim ≡ Ok p.aim) × (plant_of p ≡ record { junctions = n; lines = lines.now })) (λ d. tested n lines.now aim ≡ Err d) }
     {
         let aim = test_plant(n, lines, aim)?;
-        let count = lines.len();
+        let mut held = ArrayVec::new();
+        held.try_extend_from_slice(lines).unwrap();
         Ok(HeldPlant {
             n,
             aim,
-            lines: copied(lines),
-            count,
+            lines: held,
         })
     }
 
@@ -45,8 +36,7 @@ impl HeldPlant {
         HeldPlant {
             n: 2,
             aim: Aim::Greatest,
-            lines: [BLANK_LINE; MAX_LINES],
-            count: 0,
+            lines: ArrayVec::new(),
         }
     }
 
@@ -71,6 +61,6 @@ impl HeldPlant {
         ensures few { length result.now ≤ 1000 }
         ensures fine { (k : ℕ) → k < length result.now → Fine (plant_of self.now).junctions (slice_index_or result.now k no_line) }
     {
-        &self.lines[0..self.count]
+        self.lines.as_slice()
     }
 }
