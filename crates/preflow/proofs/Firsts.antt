@@ -1,8 +1,8 @@
 -- The first rows as the code makes them.
-use Rattle.std.proofs.Common.{◌≡◌, ℕ, ◌+◌, ◌^◌, ◌<◌, ◌≤◌, List, [], length, get_or, take, refl, ap, ◌∙◌, ⊎_elim, arith}
+use Rattle.std.proofs.Common.{◌≡◌, ℕ, ◌+◌, ◌^◌, ◌<◌, ◌≤◌, List, [], length, get_or, take, replicate, refl, ap, ◌∙◌, ⊎_elim, arith}
 use Rattle.std.specs.List.{AllByRecursion}
-use Rattle.std.proofs.lemmas.List.{length-map, take_all, get_or_past, get_or-set_same, get_or-set_other}
-use Rattle.std.proofs.lemmas.Bool.{cases_eq, cases_lt, eq-eqb, ne_eqb}
+use Rattle.std.proofs.lemmas.List.{length-map, length-replicate, take_all, get_or-replicate, get_or-set_same, get_or-set_other}
+use Rattle.std.proofs.lemmas.Bool.{cases_eq, eq-eqb, ne_eqb}
 use Rattle.plant.specs.declared.held.HeldLine.{HeldLine}
 use Rattle.plant.specs.Held.{arc, arcs, lines_of}
 use Rattle.plant.specs.Plants.{every, high_of, summed}
@@ -17,19 +17,21 @@ use Rattle.preflow.proofs.Scans.{item_all, item_is}
 use Rattle.preflow.proofs.Standing.{weaker}
 
 -- blank rows, with label n at s
-pub first_none : (n s : ℕ) (rs : List Row) → length rs ≡ n → s < n → ((u : ℕ) → get_or rs u row0 ≡ row0) → labelled s n rs ≡ first_rows n s []
-first_none n s rs e j blank =
-    rows_first n s [] (labelled s n rs) (length_labelled rs s n ∙ e)
+pub first_none : (n s : ℕ) (rs : List Row) → s < n → rs ≡ replicate n row0 → labelled s n rs ≡ first_rows n s []
+first_none n s rs j blank =
+    rows_first n s [] (labelled s n rs) (length_labelled rs s n ∙ size)
     (λ u i. ⊎_elim
     (λ (q : u ≡ s).
-    let x : exc rs s ≡ row0.excess = ap (λ (r : Row). r.excess) (blank s) in
-    rw (q, eq-eqb s s refl) (get_or-set_same rs s (record { excess = exc rs s; label = n }) row0 (omega arith) ∙ rw x refl))
-    (λ (q : u ≡ s → ⊥). rw (ne_eqb u s q) (get_or-set_other rs s u (record { excess = exc rs s; label = n }) row0 q ∙ blank u))
+    let x : exc rs s ≡ row0.excess = ap (λ (r : Row). r.excess) (at s j) in
+    rw (q, eq-eqb s s refl) (get_or-set_same rs s (record { excess = exc rs s; label = n }) row0 (omega (arith, size)) ∙ rw x refl))
+    (λ (q : u ≡ s → ⊥). rw (ne_eqb u s q) (get_or-set_other rs s u (record { excess = exc rs s; label = n }) row0 q ∙ at u i))
     (cases_eq u s))
+  where
+    size : length rs ≡ n
+    size = ap length blank ∙ length-replicate n row0
 
--- rows past the last are blank
-pub blank_all : (rs : List Row) (k : ℕ) → length rs ≤ k → ((u : ℕ) → u < k → get_or rs u row0 ≡ row0) → (u : ℕ) → get_or rs u row0 ≡ row0
-blank_all rs k j h u = ⊎_elim (λ (i : u < k). h u i) (λ (i : k ≤ u). get_or_past rs u row0 (omega arith)) (cases_lt u k)
+    at : (u : ℕ) → u < n → get_or rs u row0 ≡ row0
+    at u i = ap (λ (xs : List Row). get_or xs u row0) blank ∙ get_or-replicate n u row0 row0 i
 
 -- one line more
 pub first_step : (hs : List HeldLine) (i : ℕ) (x : HeldLine) → i < length hs → x ≡ get_or hs i x → (n s : ℕ) (rs rs' : List Row) → AllByRecursion (SoundArc n) (arcs hs) →

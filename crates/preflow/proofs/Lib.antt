@@ -6,3 +6,4 @@ pub mod Discharges
 pub mod Steps
 pub mod Opens
 pub mod Rans
+pub mod Actives

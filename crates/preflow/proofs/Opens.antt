@@ -1,11 +1,10 @@
 -- The lines of each stage as the code makes them.
-use Rattle.std.proofs.Common.{◌≡◌, ℕ, zero, suc, ◌+◌, ◌-◌, ◌*◌, ◌<◌, ◌≤◌, Bool, true, false, cond, ◌&&◌, eqb, ltb, List, [], ◌∷◌, ◌++◌, map, length, get_or, take, drop, set, ℤ, Some, None, Option, sym, refl, ap, ◌∙◌, add-one, arith}
+use Rattle.std.proofs.Common.{◌≡◌, ℕ, zero, suc, ◌+◌, ◌-◌, ◌*◌, ◌<◌, ◌≤◌, Bool, true, false, cond, not, ◌&&◌, eqb, ltb, List, [], ◌∷◌, ◌++◌, map, length, get_or, take, drop, set, ℤ, Some, None, Option, sym, refl, ap, ◌∙◌, add-one, arith}
 use borrow.Author.Differences.{up, down}
-use Rattle.std.specs.List.{AllByRecursion}
+use Rattle.std.specs.List.{AllByRecursion, list_all}
 use Rattle.std.proofs.ByRecursion.{All-from_get_or}
-use Rattle.std.proofs.lemmas.List.{append_assoc, append-nil, drop_more, get_or-map, length-map, get_or-take, length-take, length-take-le, map-append, take_all, take_more, take_more_set}
+use Rattle.std.proofs.lemmas.List.{append_assoc, append-nil, drop_more, get_or-map, length-map, length-append, length-take, length-take-le, map-append, take_all, take_more, take_more_set}
 use Rattle.std.proofs.lemmas.Int.{ints}
-use Rattle.std.proofs.lemmas.Bool.{eq-eqb, lt-ltb}
 use Rattle.plant.specs.declared.held.HeldLine.{HeldLine}
 use Rattle.plant.specs.declared.line.Line.{Line}
 use Rattle.plant.specs.Fine.{Fine}
@@ -15,7 +14,6 @@ use Rattle.stage.specs.First.{added_line, back_line, empty_arc, filled, second_a
 use Rattle.stage.proofs.Rows.{one_sided}
 use Rattle.preflow.specs.Networks.{arc_if, line_for}
 use Rattle.preflow.specs.Stages.{Light}
-use Rattle.preflow.proofs.Scans.{arcs_done, item_drop}
 
 summed_append : (ks ls : List Line) → summed every high_of (ks ++ ls) ≡ summed every high_of ks + summed every high_of ls
 summed_append [] ls = omega arith
@@ -25,39 +23,39 @@ lines_empty : (ls : List Line) → lines_of (map empty_arc ls) ≡ ls
 lines_empty [] = refl
 lines_empty (l ∷ ls) = ap (λ k. l ∷ k) (lines_empty ls)
 
--- a loop over held lines that asks whether each is full
-module _ (hs : List HeldLine) (i : ℕ) (x : HeldLine) (j : i < length hs) (e : x ≡ get_or hs i x) (n : ℕ) (m : Bool) where
-  pub filled_not : x.line.from ≡ n → x.flow < high_of x.line → filled n (drop i (arcs hs)) ≡ m → false ≡ m
-  filled_not f k h =
-      let a : filled n (arc x ∷ drop (i + 1) (arcs hs)) ≡ m = rw (item_drop hs i x j e) at h in
-      rw (eq-eqb x.line.from n f, lt-ltb x.flow (high_of x.line) k) at a
-
-  pub filled_more : (eqb x.line.from n && ltb x.flow (high_of x.line)) ≡ false → filled n (drop i (arcs hs)) ≡ m → filled n (drop (i + 1) (arcs hs)) ≡ m
-  filled_more f h =
-      let a : filled n (arc x ∷ drop (i + 1) (arcs hs)) ≡ m = rw (item_drop hs i x j e) at h in
-      rw f at a
-
-pub filled_all : (hs : List HeldLine) (i n : ℕ) (m : Bool) → length hs ≤ i → filled n (drop i (arcs hs)) ≡ m → true ≡ m
-filled_all hs i n m j h = rw (arcs_done hs i j) at h
+-- whether each of the held lines is full
+pub filled_listed : (n : ℕ) (hs : List HeldLine) → list_all (λ h. not (eqb h.line.from n && ltb h.flow (high_of h.line))) hs ≡ filled n (arcs hs)
+filled_listed n [] = refl
+filled_listed n (h ∷ hs) = ap (λ b. not (eqb h.line.from n && ltb h.flow (high_of h.line)) && b) (filled_listed n hs)
 
 -- one held line more at place k
 pub front_more : (hs : List HeldLine) (k : ℕ) (y : HeldLine) (as' : List Arc) (a : Arc) → k < length hs → arc y ≡ a → arcs (take k hs) ≡ as' → arcs (take (k + 1) (set hs k y)) ≡ as' ++ a ∷ []
 front_more hs k y as' a i e h =
     rw (take_more_set hs k y i, map-append arc (take k hs) (y ∷ [])) (ap (λ b. b ++ arc y ∷ []) h ∙ ap (λ z. as' ++ z ∷ []) e)
 
--- the plant's lines in stage one, one more
-pub shift_more : (hs : List HeldLine) (ls : List Line) (k : ℕ) (y : HeldLine) → k < length hs → k < length ls → arc y ≡ empty_arc (shifted (get_or ls k no_line)) →
-    arcs (take k hs) ≡ map empty_arc (map shifted (take k ls)) → arcs (take (k + 1) (set hs k y)) ≡ map empty_arc (map shifted (take (k + 1) ls))
-shift_more hs ls k y i j e h =
-    let l = get_or ls k no_line in
-    front_more hs k y (map empty_arc (map shifted (take k ls))) (empty_arc (shifted l)) i e h
-    ∙ sym (rw (take_more ls k no_line j, map-append shifted (take k ls) (l ∷ []), map-append empty_arc (map shifted (take k ls)) (shifted l ∷ [])))
+-- one held line more at the end
+pub pushed_more : (hs hs' : List HeldLine) (y : HeldLine) (as' bs : List Arc) (a : Arc) → hs' ≡ hs ++ y ∷ [] → arc y ≡ a → arcs hs ≡ as' ++ bs → arcs hs' ≡ as' ++ (bs ++ a ∷ [])
+pushed_more hs hs' y as' bs a eh e h =
+    ap arcs eh ∙ map-append arc hs (y ∷ []) ∙ ap (λ b. b ++ arc y ∷ []) h ∙ ap (λ z. (as' ++ bs) ++ z ∷ []) e ∙ append_assoc as' bs (a ∷ [])
 
-pub shift_all : (hs : List HeldLine) (ls : List Line) (k : ℕ) → k ≡ length ls → arcs (take k hs) ≡ map empty_arc (map shifted (take k ls)) →
-    arcs (take (length ls) hs) ≡ map empty_arc (map shifted ls)
-shift_all hs ls k e h =
-    let a : arcs (take (length ls) hs) ≡ map empty_arc (map shifted (take (length ls) ls)) = rw e at h in
-    rw (take_all (length ls) ls (omega arith)) at a
+-- the plant's lines in stage one, one more
+pub shift_more : (hs hs' : List HeldLine) (ls : List Line) (k : ℕ) (x : Line) (y : HeldLine) (as' : List Arc) → k < length ls → arc y ≡ empty_arc (shifted (get_or ls k x)) → hs' ≡ hs ++ y ∷ [] →
+    arcs hs ≡ as' ++ map empty_arc (map shifted (take k ls)) → arcs hs' ≡ as' ++ map empty_arc (map shifted (take (k + 1) ls))
+shift_more hs hs' ls k x y as' j e eh h =
+    let l = get_or ls k x in
+    pushed_more hs hs' y as' (map empty_arc (map shifted (take k ls))) (empty_arc (shifted l)) eh e h
+    ∙ ap (λ z. as' ++ z) (sym (rw (take_more ls k x j, map-append shifted (take k ls) (l ∷ []), map-append empty_arc (map shifted (take k ls)) (shifted l ∷ [])) refl))
+
+pub shift_all : (hs : List HeldLine) (ls : List Line) (k : ℕ) (as' : List Arc) → length ls ≤ k → arcs hs ≡ as' ++ map empty_arc (map shifted (take k ls)) →
+    arcs hs ≡ as' ++ map empty_arc (map shifted ls)
+shift_all hs ls k as' e h = h ∙ ap (λ z. as' ++ map empty_arc (map shifted z)) (take_all k ls e)
+
+-- how many are held
+pub shift_count : (hs : List HeldLine) (ls : List Line) (k : ℕ) (as' : List Arc) → k ≤ length ls → arcs hs ≡ as' ++ map empty_arc (map shifted (take k ls)) → length hs ≡ length as' + k
+shift_count hs ls k as' j h =
+    let c = ap length h ∙ length-append as' (map empty_arc (map shifted (take k ls))) in
+    let d = length-map (map shifted (take k ls)) empty_arc ∙ length-map (take k ls) shifted ∙ length-take-le k ls j in
+    omega (arith, c, d, length-map hs arc)
 
 second_push : (ls : List Line) (as' : List Arc) (l : Line) (a : Arc) → length ls ≡ length as' →
     second_arcs (ls ++ l ∷ []) (as' ++ a ∷ []) ≡ second_arcs ls as' ++ record { line = l; flow = low_of l + a.flow } ∷ []
@@ -84,11 +82,14 @@ settle_more hs₀ hs ls k x y i i₀ j d e h =
         let e : get_or bs k x ∷ drop (k + 1) bs ≡ get_or as' k x ∷ drop (k + 1) as' = sym (drop_more bs k x i) ∙ d ∙ drop_more as' k x j in
         cc
 
-pub settle_all : (hs₀ hs : List HeldLine) (ls : List Line) (k : ℕ) → k ≡ length ls → arcs (take k hs) ≡ second_arcs (take k ls) (arcs (take k hs₀)) →
-    arcs (take (length ls) hs) ≡ second_arcs ls (arcs (take (length ls) hs₀))
-settle_all hs₀ hs ls k e h =
-    let a : arcs (take (length ls) hs) ≡ second_arcs (take (length ls) ls) (arcs (take (length ls) hs₀)) = rw e at h in
-    rw (take_all (length ls) ls (omega arith)) at a
+pub settle_all : (hs₀ hs : List HeldLine) (ls : List Line) (k : ℕ) → length ls ≤ k → length hs ≡ length ls → length hs₀ ≡ length ls → arcs (take k hs) ≡ second_arcs (take k ls) (arcs (take k hs₀)) → arcs hs ≡ second_arcs ls (arcs hs₀)
+settle_all hs₀ hs ls k e n n₀ h = rw (take_all k hs (omega arith), take_all k hs₀ (omega arith), take_all k ls e) at h
+
+-- lines past those of the plant do not count
+pub second_cut : (ls : List Line) (hs : List HeldLine) → second_arcs ls (arcs (take (length ls) hs)) ≡ second_arcs ls (arcs hs)
+second_cut [] hs = refl
+second_cut (l ∷ ls) [] = refl
+second_cut (l ∷ ls) (h ∷ hs) = ap (λ z. record { line = l; flow = low_of l + h.flow } ∷ z) (second_cut ls hs)
 
 -- where the rest is the same, so is what follows
 pub drop_next : (as' bs : List HeldLine) (k : ℕ) (x : HeldLine) → k < length bs → k < length as' → drop k bs ≡ drop k as' → drop (k + 1) bs ≡ drop (k + 1) as'
@@ -97,21 +98,22 @@ drop_next as' bs k x i j d =
     cc
 
 -- the flow found fits between low and high
-pub settle_fits : (hs₀ hs : List HeldLine) (ls : List Line) (k : ℕ) (x : HeldLine) → k < length hs → k < length ls → length ls ≤ length hs₀ → drop k hs ≡ drop k hs₀ →
-    lines_of (arcs (take (length ls) hs₀)) ≡ map shifted ls → (get_or hs k x).flow ≤ high_of (get_or ls k no_line) - low_of (get_or ls k no_line)
-settle_fits hs₀ hs ls k x i j m d e =
+pub settle_fits : (hs₀ hs : List HeldLine) (ls : List Line) (k : ℕ) (x : HeldLine) → k < length hs → k < length ls → length hs₀ ≡ length ls → drop k hs ≡ drop k hs₀ →
+    lines_of (arcs hs₀) ≡ map shifted ls → (get_or hs k x).flow ≤ high_of (get_or ls k no_line) - low_of (get_or ls k no_line)
+settle_fits hs₀ hs ls k x i j n d e =
     let i₀ : k < length hs₀ = omega arith in
     let q : get_or hs k x ∷ drop (k + 1) hs ≡ get_or hs₀ k x ∷ drop (k + 1) hs₀ = sym (drop_more hs k x i) ∙ d ∙ drop_more hs₀ k x i₀ in
     let z : get_or hs k x ≡ get_or hs₀ k x = cc in
-    let hs₁ = take (length ls) hs₀ in
-    let n : length hs₁ ≡ length ls = length-take-le (length ls) hs₀ m in
-    let n' : length (arcs hs₁) ≡ length ls = length-map hs₁ arc ∙ n in
-    let a : get_or (lines_of (arcs hs₁)) k no_line ≡ (get_or hs₀ k x).line =
-    get_or-map line_of (arcs hs₁) k (arc x) no_line (omega arith)
-    ∙ ap line_of (get_or-map arc hs₁ k x (arc x) (omega arith)) ∙ ap (λ (h : HeldLine). h.line) (get_or-take (length ls) hs₀ k x j) in
+    let n' : length (arcs hs₀) ≡ length ls = length-map hs₀ arc ∙ n in
+    let a : get_or (lines_of (arcs hs₀)) k no_line ≡ (get_or hs₀ k x).line =
+    get_or-map line_of (arcs hs₀) k (arc x) no_line (omega arith) ∙ ap line_of (get_or-map arc hs₀ k x (arc x) (omega arith)) in
     let b : get_or (map shifted ls) k no_line ≡ shifted (get_or ls k no_line) = get_or-map shifted ls k no_line no_line j in
     let f : (get_or hs₀ k x).line ≡ shifted (get_or ls k no_line) = sym a ∙ ap (λ (l : List Line). get_or l k no_line) e ∙ b in
     omega (arith, (get_or hs₀ k x).within.1, ap high_of f, ap (λ (h : HeldLine). h.flow) z)
+
+-- as many lines are held as the plant has
+pub settle_count : (hs : List HeldLine) (ls : List Line) → lines_of (arcs hs) ≡ map shifted ls → length hs ≡ length ls
+settle_count hs ls e = sym (length-map hs arc) ∙ sym (length-map (arcs hs) line_of) ∙ ap length e ∙ length-map ls shifted
 
 -- sums of limits of fine lines
 fine_all : (n : ℕ) (ls : List Line) → ((k : ℕ) → k < length ls → Fine n (get_or ls k no_line)) → AllByRecursion (Fine n) ls
@@ -168,36 +170,32 @@ module _ (n : ℕ) (ls : List Line) (few : length ls ≤ 1000) (fine : (k : ℕ)
       go (l ∷ ks) (b ∷ bs) a = omega (arith, go ks bs a.1, a.0.4)
 
 -- one junction more: o is the line that it adds
-pub surplus_more : (hs hs' : List HeldLine) (count count' n v : ℕ) (ls : List Line) (as' : List Arc) (o : Option HeldLine) (z : ℤ) → z ≡ surplus ls v → arc_if o ≡ map empty_arc (line_for n v z) →
-    arcs (take count' hs') ≡ arcs (take count hs) ++ arc_if o → arcs (take count hs) ≡ as' ++ map empty_arc (surplus_lines n ls v) →
-    arcs (take count' hs') ≡ as' ++ map empty_arc (surplus_lines n ls (v + 1))
-surplus_more hs hs' count count' n v ls as' o z ez eo e h =
+pub surplus_more : (hs hs' : List HeldLine) (n v : ℕ) (ls : List Line) (as' : List Arc) (o : Option HeldLine) (z : ℤ) → z ≡ surplus ls v → arc_if o ≡ map empty_arc (line_for n v z) →
+    arcs hs' ≡ arcs hs ++ arc_if o → arcs hs ≡ as' ++ map empty_arc (surplus_lines n ls v) → arcs hs' ≡ as' ++ map empty_arc (surplus_lines n ls (v + 1))
+surplus_more hs hs' n v ls as' o z ez eo e h =
     let w : arc_if o ≡ map empty_arc (surplus_line n ls v) = eo ∙ ap (λ (y : ℤ). map empty_arc (line_for n v y)) ez in
     rw (add-one v, map-append empty_arc (surplus_lines n ls v) (surplus_line n ls v))
     (e ∙ ap (λ b. b ++ arc_if o) h ∙ append_assoc as' (map empty_arc (surplus_lines n ls v)) (arc_if o) ∙ ap (λ b. as' ++ (map empty_arc (surplus_lines n ls v) ++ b)) w)
 
+-- a line that was pushed, and one that there was none of
+pub pushed_some : (hs hs' : List HeldLine) (o : Option HeldLine) (x : HeldLine) → o ≡ Some x → hs' ≡ hs ++ x ∷ [] → arcs hs' ≡ arcs hs ++ arc_if o
+pushed_some hs hs' o x eo eh = rw (eo, eh) (map-append arc hs (x ∷ []))
+
+pub pushed_none : (hs hs' : List HeldLine) (o : Option HeldLine) → o ≡ None → hs' ≡ hs → arcs hs' ≡ arcs hs ++ arc_if o
+pushed_none hs hs' o eo eh = rw (eo, eh) (sym (append-nil (arcs hs)))
+
 -- the lines of stage one in their parts
-pub first_opened : (ls ls' : List Line) (n n' : ℕ) (hs hs₂ : List HeldLine) (y : HeldLine) (high r : ℕ) → ls ≡ ls' → n ≡ n' → length ls < length hs →
-    arcs (take (length ls) hs) ≡ map empty_arc (map shifted ls) → arc y ≡ empty_arc (added_line 1 0 high) → high ≡ summed every high_of ls →
-    arcs (take r hs₂) ≡ arcs (take (length ls + 1) (set hs (length ls) y)) ++ map empty_arc (surplus_lines n ls n) →
-    arcs (take r hs₂) ≡ map empty_arc (map shifted ls' ++ (back_line ls' ∷ surplus_lines n' ls' n'))
-first_opened ls ls' n n' hs hs₂ y high r el en i h e eh q =
+pub first_opened : (ls ls' : List Line) (n n' : ℕ) (hs₀ hs₁ hs₂ hs₃ : List HeldLine) (y : HeldLine) (high : ℕ) → ls ≡ ls' → n ≡ n' → hs₀ ≡ [] →
+    arcs hs₁ ≡ arcs hs₀ ++ map empty_arc (map shifted ls) → arc y ≡ empty_arc (added_line 1 0 high) → high ≡ summed every high_of ls → hs₂ ≡ hs₁ ++ y ∷ [] →
+    arcs hs₃ ≡ arcs hs₂ ++ map empty_arc (surplus_lines n ls n) →
+    arcs hs₃ ≡ map empty_arc (map shifted ls' ++ (back_line ls' ∷ surplus_lines n' ls' n'))
+first_opened ls ls' n n' hs₀ hs₁ hs₂ hs₃ y high el en none h e eh e₂ q =
     let b = empty_arc (back_line ls) in
-    let f = front_more hs (length ls) y (map empty_arc (map shifted ls)) b i (e ∙ ap (λ x. empty_arc (added_line 1 0 x)) eh) h in
-    let g : arcs (take r hs₂) ≡ map empty_arc (map shifted ls ++ (back_line ls ∷ surplus_lines n ls n)) =
+    let h' : arcs hs₁ ≡ map empty_arc (map shifted ls) = rw none at h in
+    let f : arcs hs₂ ≡ map empty_arc (map shifted ls) ++ b ∷ [] =
+    ap arcs e₂ ∙ map-append arc hs₁ (y ∷ []) ∙ ap (λ z. z ++ arc y ∷ []) h' ∙ ap (λ z. map empty_arc (map shifted ls) ++ z ∷ []) (e ∙ ap (λ x. empty_arc (added_line 1 0 x)) eh) in
+    let g : arcs hs₃ ≡ map empty_arc (map shifted ls ++ (back_line ls ∷ surplus_lines n ls n)) =
     q ∙ ap (λ x. x ++ map empty_arc (surplus_lines n ls n)) f
     ∙ append_assoc (map empty_arc (map shifted ls)) (b ∷ []) (map empty_arc (surplus_lines n ls n))
     ∙ sym (map-append empty_arc (map shifted ls) (back_line ls ∷ surplus_lines n ls n)) in
     rw (el, en) at g
-
--- their number
-pub opened_number : (hs : List HeldLine) (r : ℕ) (as' : List Arc) → r ≤ length hs → arcs (take r hs) ≡ as' → r ≡ length as'
-opened_number hs r as' k e = sym (length-map (take r hs) arc ∙ length-take-le r hs k) ∙ ap length e
-
--- a line that was stored, and one that there was none of
-pub stored : (hs hs' : List HeldLine) (count count' : ℕ) (o : Option HeldLine) (x : HeldLine) → o ≡ Some x → hs' ≡ set hs count x → count' ≡ count + 1 → count < length hs →
-    arcs (take count' hs') ≡ arcs (take count hs) ++ arc_if o
-stored hs hs' count count' o x eo eh ec i = rw (eo, eh, ec) (front_more hs count x (arcs (take count hs)) (arc x) i refl refl)
-
-pub not_stored : (hs hs' : List HeldLine) (count count' : ℕ) (o : Option HeldLine) → o ≡ None → hs' ≡ hs → count' ≡ count → arcs (take count' hs') ≡ arcs (take count hs) ++ arc_if o
-not_stored hs hs' count count' o eo eh ec = rw (eo, eh, ec) (sym (append-nil (arcs (take count hs))))

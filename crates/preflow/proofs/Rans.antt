@@ -22,9 +22,9 @@ module _ {C : Type 0} (has : C → ℕ → Bool) (puts : C → ℕ → ℕ → C
   ran_none st c = record { taken = []; count = refl; relabelled = refl; chain = (refl, refl) }
 
   -- one discharge more
-  pub ran_more : (st st₁ st₂ : State) (c c₁ c₂ : C) (m r : ℕ) (b : Bool) → Ran has puts takes n s t st c m r st₁ c₁ → Stepped has puts takes n s t st₁ c₁ (Some b) st₂ c₂ →
-      Ran has puts takes n s t st c (m + 1) (r + bool_byte b) st₂ c₂
-  ran_more st st₁ st₂ c c₁ c₂ m r b ran step =
+  pub ran_more : (st st₁ st₂ : State) (c c₁ c₂ : C) (m r d : ℕ) (b : Bool) → d ≡ bool_byte b → Ran has puts takes n s t st c m r st₁ c₁ → Stepped has puts takes n s t st₁ c₁ (Some b) st₂ c₂ →
+      Ran has puts takes n s t st c (m + 1) (r + d) st₂ c₂
+  ran_more st st₁ st₂ c c₁ c₂ m r d b ed ran step =
       let v = step.0 in
       let vs = ran.taken in
       let state = discharges_ran (Puts has puts) (Takes has takes) n s t vs st st₁ c c₁ ran.chain in
@@ -36,5 +36,5 @@ module _ {C : Type 0} (has : C → ℕ → Bool) (puts : C → ℕ → ℕ → C
         chain = subst (λ (x : State). Discharges (Puts has puts) (Takes has takes) n s t (vs ++ v ∷ []) st c x c₂) (sym step.5) more;
       }
     where
-      sums : {u : Bool} {x : ℕ} → b ≡ u → x ≡ r → x + cond u 1 0 ≡ r + bool_byte b
-      sums {u} {x} e f = rw (sym e) (omega (arith, byte_is b, f))
+      sums : {u : Bool} {x : ℕ} → b ≡ u → x ≡ r → x + cond u 1 0 ≡ r + d
+      sums {u} {x} e f = rw (sym e) (omega (arith, byte_is b, f, ed))

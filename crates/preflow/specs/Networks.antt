@@ -5,6 +5,9 @@ use Rattle.plant.specs.declared.held.HeldLine.{HeldLine}
 use Rattle.plant.specs.declared.line.Line.{Line}
 use Rattle.plant.specs.Held.{Arc, arc}
 use Rattle.stage.specs.First.{added_line}
+use Rattle.stage.specs.Model.{State}
+use Rattle.preflow.specs.declared.network.Network.{Network}
+use Rattle.preflow.specs.Stages.{state_of}
 
 -- the arc of a held line, if there is one
 abbrev pub arc_if : Option HeldLine → List Arc
@@ -14,3 +17,7 @@ arc_if (Some h) = arc h ∷ []
 -- the line for junction v with surplus z
 abbrev pub line_for : ℕ → ℕ → ℤ → List Line
 line_for n v z = cond (nat_lt 0 (up z)) (added_line n v (up z) ∷ []) (cond (nat_lt 0 (down z)) (added_line v (n + 1) (down z) ∷ []) [])
+
+-- the state that a network holds
+abbrev pub state_in : {C : Type 0} → Network C → State
+state_in w = state_of w.lines.items w.rows.items

@@ -1,26 +1,28 @@
 //! How a stage begins.
-ghost use Rattle.std.specs.Prelude.{◌≡◌, length, take};
+ghost use Rattle.std.specs.Prelude.{◌≡◌, length, replicate};
 ghost use Rattle.plant.specs.Held.{arcs};
-ghost use Rattle.preflow.specs.Choosers.{Filled, Puts};
-ghost use Rattle.preflow.specs.Stages.{Light, Stands, state};
-ghost use Rattle.stage.specs.Model.{begin_puts, begun, begun_arcs, begun_rows, first_rows};
-ghost use Rattle.stage.specs.Runs.{PutAll, Tied};
+ghost use Rattle.preflow.specs.Choosers.{Puts};
+ghost use Rattle.preflow.specs.Stages.{Light};
+ghost use Rattle.stage.specs.Model.{begin_puts, begun, begun_arcs, begun_rows, first_rows, row0};
+ghost use Rattle.stage.specs.Runs.{PutAll};
 ghost use Rattle.stage.specs.States.{Balanced, SoundArc};
 ghost use Rattle.std.specs.List.{AllByRecursion};
 
 use super::push::push;
-use super::rows::{Rows, Stage, blank_rows, relabel, send};
+use super::rows::{Rows, lay_blank, relabel, send};
+use super::stages::Stage;
 use chooser::Chooser;
 use plant::HeldLine;
 use stage::Row;
 
 // Label N at the start and 0 elsewhere; the excess of each junction is that of the flow.
 fn first_rows(stage: Stage, lines: &[HeldLine], rows: &mut [Row])
-    requires { (length rows.old ≡ stage.junctions) × ((AllByRecursion (SoundArc stage.junctions) (arcs lines.now)) × (Light (arcs lines.now))) }
+    requires sound { AllByRecursion (SoundArc stage.junctions) (arcs lines.now) }
+    requires light { Light (arcs lines.now) }
+    requires blank { rows.old ≡ replicate stage.junctions row0 }
     ensures { rows.new ≡ first_rows stage.junctions stage.start (arcs lines.now) }
 {
-    blank_rows(rows);
-    relabel(rows, stage.start, stage.junctions as u32);
+    relabel(rows, stage.start, u32::from(stage.junctions));
     for held in lines {
         send(rows, held.line.from, held.line.to, held.flow);
     }
@@ -28,19 +30,20 @@ fn first_rows(stage: Stage, lines: &[HeldLine], rows: &mut [Row])
 
 // Pushes the whole of every residual out of the start.
 fn push_all(stage: Stage, lines: &mut [HeldLine], rows: &mut [Row])
-    requires { (Balanced stage.junctions stage.start stage.goal (arcs lines.old)) × ((Light (arcs lines.old)) × (rows.old ≡ first_rows stage.junctions stage.start (arcs lines.old))) }
+    requires balanced { Balanced stage.junctions stage.start stage.goal (arcs lines.old) }
+    requires light { Light (arcs lines.old) }
+    requires first { rows.old ≡ first_rows stage.junctions stage.start (arcs lines.old) }
     ensures lines { arcs lines.new ≡ begun_arcs stage.start (arcs lines.old) rows.old }
     ensures rows { rows.new ≡ begun_rows stage.start (arcs lines.old) rows.old }
 {
-    for k in 0..lines.len() {
-        let held = &mut lines[k];
+    for held in lines.iter_mut() {
         let whole = held.residual(stage.start);
         push(held, rows, stage.start, whole);
     }
 }
 
-// Puts the active junctions in rising order.
-fn put_active<C: Chooser>(stage: Stage, rows: &[Row], chooser: &mut C)
+/// Puts the active junctions in rising order.
+pub fn put_active<C: Chooser>(stage: Stage, rows: &[Row], chooser: &mut C)
     requires { length rows.now ≡ stage.junctions }
     ensures { PutAll (Puts C.Chooser.has C.Chooser.puts) chooser.old (begin_puts stage.junctions stage.start stage.goal rows.now) chooser.new }
 {
@@ -51,30 +54,15 @@ fn put_active<C: Chooser>(stage: Stage, rows: &[Row], chooser: &mut C)
     }
 }
 
-// The first rows, and then the pushes out of the start.
-fn begin_rows(stage: Stage, lines: &mut [HeldLine], rows: &mut [Row])
-    requires { (length rows.old ≡ stage.junctions) × ((Balanced stage.junctions stage.start stage.goal (arcs lines.old)) × (Light (arcs lines.old))) }
+/// The first rows, and then the pushes out of the start.
+pub fn begin_rows(stage: Stage, lines: &mut [HeldLine], rows: &mut Rows)
+    requires balanced { Balanced stage.junctions stage.start stage.goal (arcs lines.old) }
+    requires light { Light (arcs lines.old) }
     ensures lines { arcs lines.new ≡ (begun stage.junctions stage.start (arcs lines.old)).arcs }
-    ensures rows { rows.new ≡ (begun stage.junctions stage.start (arcs lines.old)).rows }
+    ensures rows { rows.new.items ≡ (begun stage.junctions stage.start (arcs lines.old)).rows }
 {
+    lay_blank(rows, stage.junctions);
+    let rows = rows.as_mut_slice();
     first_rows(stage, lines, rows);
     push_all(stage, lines, rows);
-}
-
-/// Begins a stage over the flow that the lines carry.
-pub fn begin_stage<C: Chooser>(
-    stage: Stage,
-    lines: &mut [HeldLine],
-    rows: &mut Rows,
-    chooser: &mut C,
-)
-    requires { (Balanced stage.junctions stage.start stage.goal (arcs lines.old)) × (Light (arcs lines.old)) }
-    ensures state { state stage.junctions lines.new rows.new ≡ begun stage.junctions stage.start (arcs lines.old) }
-    ensures puts { Filled C.Chooser.has C.Chooser.clears C.Chooser.puts chooser.old (begin_puts stage.junctions stage.start stage.goal (take stage.junctions rows.new)) chooser.new }
-    ensures stands { Stands stage.junctions stage.start stage.goal (state stage.junctions lines.new rows.new) }
-    ensures tied { Tied C.Chooser.has stage.start stage.goal (take stage.junctions rows.new) chooser.new }
-{
-    begin_rows(stage, lines, &mut rows[0..stage.junctions as usize]);
-    chooser.clear();
-    put_active(stage, &rows[0..stage.junctions as usize], chooser);
 }

@@ -2,30 +2,32 @@
 ghost use Rattle.std.specs.Prelude.{◌≡◌, true, length};
 ghost use Rattle.plant.specs.Held.{arc, arcs};
 ghost use Rattle.preflow.specs.Choosers.{Puts};
-ghost use Rattle.preflow.specs.Stages.{Stands, Stepped, state, state_of};
+ghost use Rattle.preflow.specs.Stages.{Stands, state_of};
 ghost use Rattle.stage.specs.Model.{active, discharge_puts, discharged_arcs, discharged_rows, lower, lowest, scan_arcs, scan_puts, scan_rows, unspent};
-ghost use Rattle.stage.specs.Runs.{PutAll, Tied};
+ghost use Rattle.stage.specs.Runs.{PutAll};
 ghost use Rattle.stage.specs.States.{SoundArc};
 ghost use Rattle.std.specs.List.{AllByRecursion};
 
 use super::push::push_and_put;
-use super::rows::{Rows, Stage, relabel};
+use super::rows::relabel;
+use super::stages::Stage;
 use chooser::Chooser;
 use plant::HeldLine;
 use stage::Row;
 
 // The pushes of a discharge of `v`, over its lines in rising number, until its excess is zero.
 fn scan<C: Chooser>(stage: Stage, lines: &mut [HeldLine], rows: &mut [Row], chooser: &mut C, v: u8)
-    requires { (Stands stage.junctions stage.start stage.goal (state_of lines.old rows.old)) × (active stage.start stage.goal rows.old v ≡ true) }
+    requires stands { Stands stage.junctions stage.start stage.goal (state_of lines.old rows.old) }
+    requires active { active stage.start stage.goal rows.old v ≡ true }
     ensures lines { arcs lines.new ≡ scan_arcs v (arcs lines.old) rows.old }
     ensures rows { rows.new ≡ scan_rows v (arcs lines.old) rows.old }
     ensures puts { PutAll (Puts C.Chooser.has C.Chooser.puts) chooser.old (scan_puts stage.start stage.goal v (arcs lines.old) rows.old) chooser.new }
 {
-    for k in 0..lines.len() {
+    for held in lines.iter_mut() {
         if rows[v as usize].excess <= 0 {
             break;
         }
-        push_and_put(stage, &mut lines[k], rows, chooser, v);
+        push_and_put(stage, held, rows, chooser, v);
     }
 }
 
@@ -46,6 +48,7 @@ fn lowest(lines: &[HeldLine], rows: &[Row], v: u8, most: u32) -> u32
     requires { AllByRecursion (SoundArc (length rows.now)) (arcs lines.now) }
     ensures { result ≡ lowest v (arcs lines.now) rows.now most }
 {
+    // A loop and no fold: `lower` asks for a sound line, which a closure cannot ask of the items alone.
     let mut best = most;
     for held in lines {
         best = lower(held, rows, v, best);
@@ -54,14 +57,15 @@ fn lowest(lines: &[HeldLine], rows: &[Row], v: u8, most: u32) -> u32
 }
 
 /// Discharges `v`; answers whether it was relabelled.
-pub fn discharge_junction<C: Chooser>(
+pub fn discharge<C: Chooser>(
     stage: Stage,
     lines: &mut [HeldLine],
     rows: &mut [Row],
     chooser: &mut C,
     v: u8,
 ) -> bool
-    requires { (Stands stage.junctions stage.start stage.goal (state_of lines.old rows.old)) × (active stage.start stage.goal rows.old v ≡ true) }
+    requires stands { Stands stage.junctions stage.start stage.goal (state_of lines.old rows.old) }
+    requires active { active stage.start stage.goal rows.old v ≡ true }
     ensures lines { arcs lines.new ≡ discharged_arcs v (arcs lines.old) rows.old }
     ensures rows { rows.new ≡ discharged_rows stage.junctions v (arcs lines.old) rows.old }
     ensures answer { result ≡ unspent v (arcs lines.old) rows.old }
@@ -71,32 +75,8 @@ pub fn discharge_junction<C: Chooser>(
     if rows[v as usize].excess <= 0 {
         return false;
     }
-    let label = lowest(lines, rows, v, 2 * stage.junctions as u32) + 1;
+    let label = lowest(lines, rows, v, 2 * u32::from(stage.junctions)) + 1;
     relabel(rows, v, label);
     chooser.put(v, label);
     true
-}
-
-/// Takes a junction and discharges it; answers whether it was relabelled, or None where none is active.
-pub fn step<C: Chooser>(
-    stage: Stage,
-    lines: &mut [HeldLine],
-    rows: &mut Rows,
-    chooser: &mut C,
-) -> Option<bool>
-    requires { (Stands stage.junctions stage.start stage.goal (state stage.junctions lines.old rows.old)) × (Tied C.Chooser.has stage.start stage.goal (state stage.junctions lines.old rows.old).rows chooser.old) }
-    ensures step { Stepped C.Chooser.has C.Chooser.puts C.Chooser.takes stage.junctions stage.start stage.goal (state stage.junctions lines.old rows.old) chooser.old result (state stage.junctions lines.new rows.new) chooser.new }
-    ensures stands { Stands stage.junctions stage.start stage.goal (state stage.junctions lines.new rows.new) }
-    ensures tied { Tied C.Chooser.has stage.start stage.goal (state stage.junctions lines.new rows.new).rows chooser.new }
-{
-    let Some(v) = chooser.take() else {
-        return None;
-    };
-    Some(discharge_junction(
-        stage,
-        lines,
-        &mut rows[0..stage.junctions as usize],
-        chooser,
-        v,
-    ))
 }

@@ -4,12 +4,11 @@
 mod begin;
 mod discharge;
 mod network;
+mod opening;
 mod push;
 mod rows;
-mod running;
+mod stages;
 
-pub use begin::begin_stage;
-pub use discharge::{discharge_junction, step};
-pub use network::{HELD_LINES, is_filled, open_first, open_second};
-pub use rows::{BLANK_ROW, ROWS, Rows, Stage, any_active};
-pub use running::run_stage;
+pub use network::{HELD_LINES, Lines, Network};
+pub use rows::{ROWS, Rows};
+pub use stages::Stage;

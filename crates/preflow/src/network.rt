@@ -1,146 +1,141 @@
-//! The lines of each stage.
-ghost use borrow.Author.Differences.{down, up};
-ghost use Rattle.std.specs.Prelude.{◌≡◌, ℕ, ◌+◌, ◌-◌, ◌^◌, ◌<◌, ◌≤◌, ◌++◌, map, length, take, ◌≢◌, slice_index_or};
-ghost use Rattle.plant.specs.Fine.{Fine};
-ghost use Rattle.plant.specs.Held.{arc, arcs, lines_of, plant_of};
-ghost use Rattle.plant.specs.Plants.{no_line};
-ghost use Rattle.preflow.specs.Networks.{arc_if, line_for};
-ghost use Rattle.preflow.specs.Stages.{Light};
-ghost use Rattle.stage.specs.First.{added_line, empty_arc, filled, first_arcs, second_arcs, shifted, surplus_lines};
+//! The lines, the rows and the chooser of a stage.
+ghost use Rattle.std.specs.Prelude.{◌≡◌, ◌≤◌, [], length, map, take};
+ghost use Rattle.plant.specs.Held.{arcs, lines_of, plant_of};
+ghost use Rattle.preflow.specs.Choosers.{Filled};
+ghost use Rattle.preflow.specs.Networks.{state_in};
+ghost use Rattle.preflow.specs.Running.{RanOut};
+ghost use Rattle.preflow.specs.Stages.{AnyActive, Light, Stands, Stepped};
+ghost use Rattle.stage.specs.First.{filled, first_arcs, second_arcs, shifted};
+ghost use Rattle.stage.specs.Model.{begin_puts, begun};
+ghost use Rattle.stage.specs.Runs.{Tied};
+ghost use Rattle.stage.specs.States.{Balanced};
 
-use plant::{HeldLine, HeldPlant, Line, sum_of_highs, surplus_at};
+use super::begin::{begin_rows, put_active};
+use super::discharge::discharge;
+use super::opening;
+use super::rows::Rows;
+use super::stages::Stage;
+use arrayvec::ArrayVec;
+use chooser::Chooser;
+use plant::{HeldLine, HeldPlant};
 
 /// As many lines as a stage can have: 1,000 of the plant, and those that stage one adds.
 pub const HELD_LINES: usize = 1252;
 
-// A plant's line in stage one: low 0, and what lies between low and high; no flow yet.
-fn shifted(line: Line) -> HeldLine
-    requires { Fine 250 line }
-    ensures { arc result ≡ empty_arc (shifted line) }
-{
-    HeldLine {
-        line: Line {
-            from: line.from,
-            to: line.to,
-            low: 0,
-            high: line.high - line.low,
-        },
-        flow: 0,
-    }
+/// The lines of a stage with their flows.
+pub type Lines = ArrayVec<HeldLine, HELD_LINES>;
+
+/// What a stage works on: its lines with their flows, a row for each junction, and the chooser of active junctions.
+#[derive(Drop)]
+pub struct Network<C> {
+    lines: Lines,
+    rows: Rows,
+    chooser: C,
 }
 
-// The plant's lines in stage one.
-fn shift_lines(lines: &[Line], held: &mut [HeldLine; HELD_LINES])
-    requires { (length lines.now ≤ 1000) × ((k : ℕ) → k < length lines.now → Fine 250 (slice_index_or lines.now k no_line)) }
-    ensures { arcs (take (length lines.now) held.new) ≡ map empty_arc (map shifted lines.now) }
-{
-    for k in 0..lines.len() {
-        held[k] = shifted(lines[k]);
-    }
-}
-
-// An added line with no flow.
-fn added(from: u8, to: u8, high: u32) -> HeldLine
-    requires { (from < 252) × ((to < 252) × (from ≢ to)) }
-    ensures { arc result ≡ empty_arc (added_line from to high) }
-{
-    HeldLine {
-        line: Line {
-            from,
-            to,
-            low: 0,
-            high,
-        },
-        flow: 0,
-    }
-}
-
-// The line that stage one adds for a junction: from n for a surplus above zero, to n + 1 for one below zero.
-fn surplus_line(n: u8, v: u8, surplus: i64) -> Option<HeldLine>
-    requires { (v < n) × ((n ≤ 250) × ((up surplus < 2 ^ 32) × (down surplus < 2 ^ 32))) }
-    ensures { arc_if result ≡ map empty_arc (line_for n v surplus) }
-{
-    if surplus > 0 {
-        Some(added(n, v, surplus.unsigned_abs() as u32))
-    } else if surplus < 0 {
-        Some(added(v, n + 1, surplus.unsigned_abs() as u32))
-    } else {
-        None
-    }
-}
-
-// Adds the lines of the junctions' surpluses after the first `start` lines; answers the number of all lines.
-fn add_surpluses(n: u8, lines: &[Line], held: &mut [HeldLine; HELD_LINES], start: usize) -> usize
-    requires { (length lines.now ≤ 1000) × (((k : ℕ) → k < length lines.now → Fine 250 (slice_index_or lines.now k no_line)) × ((n ≤ 250) × (start ≤ 1001))) }
-    ensures lines { arcs (take result held.new) ≡ arcs (take start held.old) ++ map empty_arc (surplus_lines n lines.now n) }
-    ensures few { result ≤ 1251 }
-{
-    let mut count = start;
-    for v in 0..n {
-        if let Some(line) = surplus_line(n, v, surplus_at(lines, v)) {
-            held[count] = line;
-            count += 1;
+impl<C: Chooser> Network<C> {
+    /// No line and no row yet.
+    pub fn new(chooser: C) -> Network<C>
+        ensures chooser { result.chooser ≡ chooser }
+        ensures lines { result.lines.items ≡ [] }
+    {
+        Network {
+            lines: ArrayVec::new(),
+            rows: ArrayVec::new(),
+            chooser,
         }
     }
-    count
-}
 
-/// The lines of stage one: the plant's, tank to header, and one for each surplus; answers their number.
-pub fn open_first(plant: &HeldPlant, held: &mut [HeldLine; HELD_LINES]) -> usize
-    ensures lines { arcs (take result held.new) ≡ first_arcs (plant_of plant.now) }
-    ensures number { result ≡ length (first_arcs (plant_of plant.now)) }
-    ensures few { result ≤ 1251 }
-    ensures light { Light (first_arcs (plant_of plant.now)) }
-{
-    let lines = plant.lines();
-    shift_lines(lines, held);
-    let count = lines.len();
-    held[count] = added(1, 0, sum_of_highs(lines) as u32);
-    add_surpluses(plant.junctions(), lines, held, count + 1)
-}
-
-// A plant's line in stage two, with the flow that stage one found above its low.
-fn settled(line: Line, found: u32) -> HeldLine
-    requires { (Fine 250 line) × (found ≤ line.high - line.low) }
-    ensures { arc result ≡ record { line = line; flow = line.low + found } }
-{
-    HeldLine {
-        line,
-        flow: line.low + found,
+    /// The lines with their flows.
+    pub fn lines(&self) -> &[HeldLine]
+        ensures { result.now ≡ self.now.lines.items }
+    {
+        self.lines.as_slice()
     }
-}
 
-// The plant's lines in stage two.
-fn settle_lines(lines: &[Line], held: &mut [HeldLine; HELD_LINES])
-    requires { (length lines.now ≤ 1000) × (((k : ℕ) → k < length lines.now → Fine 250 (slice_index_or lines.now k no_line)) × (lines_of (arcs (take (length lines.now) held.old)) ≡ map shifted lines.now)) }
-    ensures { arcs (take (length lines.now) held.new) ≡ second_arcs lines.now (arcs (take (length lines.now) held.old)) }
-{
-    for k in 0..lines.len() {
-        held[k] = settled(lines[k], held[k].flow);
+    /// Holds the lines of stage one, with no flow.
+    pub fn open_first(&mut self, plant: &HeldPlant)
+        ensures lines { arcs self.new.lines.items ≡ first_arcs (plant_of plant.now) }
+        ensures light { Light (arcs self.new.lines.items) }
+        ensures chooser { self.new.chooser ≡ self.old.chooser }
+    {
+        opening::open_first(plant, &mut self.lines);
     }
-}
 
-/// The lines of stage two, with the flow that stage one found; answers their number.
-pub fn open_second(plant: &HeldPlant, held: &mut [HeldLine; HELD_LINES]) -> usize
-    requires { lines_of (arcs (take (length (plant_of plant.now).lines) held.old)) ≡ map shifted (plant_of plant.now).lines }
-    ensures lines { arcs (take result held.new) ≡ second_arcs (plant_of plant.now).lines (arcs (take result held.old)) }
-    ensures number { result ≡ length (plant_of plant.now).lines }
-    ensures few { result ≤ 1000 }
-    ensures light { Light (arcs (take result held.new)) }
-{
-    let lines = plant.lines();
-    settle_lines(lines, held);
-    lines.len()
-}
+    /// Holds the lines of stage two, with the flow that stage one found.
+    pub fn open_second(&mut self, plant: &HeldPlant)
+        requires { lines_of (arcs (take (length (plant_of plant.now).lines) self.old.lines.items)) ≡ map shifted (plant_of plant.now).lines }
+        ensures lines { arcs self.new.lines.items ≡ second_arcs (plant_of plant.now).lines (arcs self.old.lines.items) }
+        ensures light { Light (arcs self.new.lines.items) }
+        ensures chooser { self.new.chooser ≡ self.old.chooser }
+    {
+        opening::open_second(plant, &mut self.lines);
+    }
 
-/// Whether every line that leaves `start` is full.
-pub fn is_filled(start: u8, lines: &[HeldLine]) -> bool
-    ensures { result ≡ filled start (arcs lines.now) }
-{
-    for held in lines {
-        if held.line.from == start && held.flow < held.line.high {
-            return false;
+    /// Begins a stage over the flow that the lines carry.
+    pub fn begin(&mut self, stage: Stage)
+        requires balanced { Balanced stage.junctions stage.start stage.goal (arcs self.old.lines.items) }
+        requires light { Light (arcs self.old.lines.items) }
+        ensures state { state_in self.new ≡ begun stage.junctions stage.start (arcs self.old.lines.items) }
+        ensures puts { Filled C.Chooser.has C.Chooser.clears C.Chooser.puts self.old.chooser (begin_puts stage.junctions stage.start stage.goal self.new.rows.items) self.new.chooser }
+        ensures stands { Stands stage.junctions stage.start stage.goal (state_in self.new) }
+        ensures tied { Tied C.Chooser.has stage.start stage.goal self.new.rows.items self.new.chooser }
+    {
+        begin_rows(stage, self.lines.as_mut_slice(), &mut self.rows);
+        self.chooser.clear();
+        put_active(stage, self.rows.as_slice(), &mut self.chooser);
+    }
+
+    /// Takes a junction and discharges it; answers whether it was relabelled, or None where none is active.
+    pub fn step(&mut self, stage: Stage) -> Option<bool>
+        requires stands { Stands stage.junctions stage.start stage.goal (state_in self.old) }
+        requires tied { Tied C.Chooser.has stage.start stage.goal self.old.rows.items self.old.chooser }
+        ensures step { Stepped C.Chooser.has C.Chooser.puts C.Chooser.takes stage.junctions stage.start stage.goal (state_in self.old) self.old.chooser result (state_in self.new) self.new.chooser }
+        ensures stands { Stands stage.junctions stage.start stage.goal (state_in self.new) }
+        ensures tied { Tied C.Chooser.has stage.start stage.goal self.new.rows.items self.new.chooser }
+    {
+        let v = self.chooser.take()?;
+        let relabelled = discharge(
+            stage,
+            self.lines.as_mut_slice(),
+            self.rows.as_mut_slice(),
+            &mut self.chooser,
+            v,
+        );
+        Some(relabelled)
+    }
+
+    /// Makes discharges until there are `most`, or nothing is active; answers how many, and how many of them relabelled.
+    pub fn run(&mut self, stage: Stage, most: u32) -> (u32, u32)
+        requires stands { Stands stage.junctions stage.start stage.goal (state_in self.old) }
+        requires tied { Tied C.Chooser.has stage.start stage.goal self.old.rows.items self.old.chooser }
+        ensures ran { RanOut C.Chooser.has C.Chooser.puts C.Chooser.takes stage.junctions stage.start stage.goal (state_in self.old) self.old.chooser most result.0 result.1 (state_in self.new) self.new.chooser }
+        ensures few { result.0 ≤ most }
+        ensures stands { Stands stage.junctions stage.start stage.goal (state_in self.new) }
+        ensures tied { Tied C.Chooser.has stage.start stage.goal self.new.rows.items self.new.chooser }
+    {
+        let mut relabels = 0;
+        for made in 0..most {
+            let Some(relabelled) = self.step(stage) else {
+                return (made, relabels);
+            };
+            relabels += u32::from(relabelled);
         }
+        (most, relabels)
     }
-    true
+
+    /// Whether any junction of the stage is active.
+    pub fn any_active(&self, stage: Stage) -> bool
+        requires { length self.now.rows.items ≡ stage.junctions }
+        ensures { AnyActive stage.start stage.goal self.now.rows.items result }
+    {
+        stage.any_active(self.rows.as_slice())
+    }
+
+    /// Whether every line that leaves `start` is full.
+    pub fn is_filled(&self, start: u8) -> bool
+        ensures { result ≡ filled start (arcs self.now.lines.items) }
+    {
+        self.lines.iter().all(|held| held.line.from != start || held.flow >= held.line.high)
+    }
 }

@@ -8,7 +8,8 @@ ghost use Rattle.stage.specs.Model.{amount, lab, moved, put_if, sent, wakes};
 ghost use Rattle.stage.specs.Runs.{PutAll};
 ghost use Rattle.stage.specs.States.{Bounded, SoundArc};
 
-use super::rows::{Stage, send};
+use super::rows::send;
+use super::stages::Stage;
 use chooser::Chooser;
 use plant::HeldLine;
 use stage::Row;
@@ -19,7 +20,7 @@ fn smaller(excess: i64, residual: u32) -> u32
 {
     if excess <= 0 {
         0
-    } else if excess < residual as i64 {
+    } else if excess < i64::from(residual) {
         excess as u32
     } else {
         residual
@@ -29,7 +30,9 @@ fn smaller(excess: i64, residual: u32) -> u32
 // How much is due from `v` by a line: nothing but where the label of `v` is that of the other end plus 1. Most lines
 // do not touch `v`, so the residual is looked at first.
 fn due(held: &HeldLine, rows: &[Row], v: u8) -> u32
-    requires { (SoundArc (length rows.now) (arc held.now)) × ((v < length rows.now) × (Roomy rows.now)) }
+    requires line { SoundArc (length rows.now) (arc held.now) }
+    requires junction { v < length rows.now }
+    requires roomy { Roomy rows.now }
     ensures { result ≡ amount v (arc held.now) rows.now }
 {
     let residual = held.residual(v);
@@ -46,7 +49,10 @@ fn due(held: &HeldLine, rows: &[Row], v: u8) -> u32
 
 /// Sends `given` from `v` by a line.
 pub fn push(held: &mut HeldLine, rows: &mut [Row], v: u8, given: u32)
-    requires { (SoundArc (length rows.old) (arc held.old)) × ((v < length rows.old) × ((Bounded (2 ^ 40) rows.old) × (given ≤ residual v (arc held.old)))) }
+    requires line { SoundArc (length rows.old) (arc held.old) }
+    requires junction { v < length rows.old }
+    requires bounded { Bounded (2 ^ 40) rows.old }
+    requires given { given ≤ residual v (arc held.old) }
     ensures line { arc held.new ≡ shift v given (arc held.old) }
     ensures rows { rows.new ≡ sent v (other v (arc held.old)) given rows.old }
 {
@@ -57,7 +63,9 @@ pub fn push(held: &mut HeldLine, rows: &mut [Row], v: u8, given: u32)
 
 /// Sends what is due from `v` by a line; answers the other end where that begins to be active.
 pub fn push_due(stage: Stage, held: &mut HeldLine, rows: &mut [Row], v: u8) -> Option<u8>
-    requires { (SoundArc (length rows.old) (arc held.old)) × ((v < length rows.old) × (Roomy rows.old)) }
+    requires line { SoundArc (length rows.old) (arc held.old) }
+    requires junction { v < length rows.old }
+    requires roomy { Roomy rows.old }
     ensures line { arc held.new ≡ shift v (amount v (arc held.old) rows.old) (arc held.old) }
     ensures rows { rows.new ≡ moved v (arc held.old) rows.old }
     ensures woken { result ≡ woken stage.start stage.goal v (arc held.old) rows.old }
@@ -84,7 +92,9 @@ pub fn push_and_put<C: Chooser>(
     chooser: &mut C,
     v: u8,
 )
-    requires { (SoundArc (length rows.old) (arc held.old)) × ((v < length rows.old) × (Roomy rows.old)) }
+    requires line { SoundArc (length rows.old) (arc held.old) }
+    requires junction { v < length rows.old }
+    requires roomy { Roomy rows.old }
     ensures line { arc held.new ≡ shift v (amount v (arc held.old) rows.old) (arc held.old) }
     ensures rows { rows.new ≡ moved v (arc held.old) rows.old }
     ensures puts { PutAll (Puts C.Chooser.has C.Chooser.puts) chooser.old (put_if (wakes stage.start stage.goal v (arc held.old) rows.old) (other v (arc held.old)) (lab rows.old (other v (arc held.old)))) chooser.new }

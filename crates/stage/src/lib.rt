@@ -4,7 +4,7 @@
 ghost use Rattle.stage.specs.Laws.{BeginningHolds, DischargeKeeps, ActiveGoesOn, RelabelExact, ScanStops, ExcessBounded, RunsEnd, SetTies, StartParted, GoalOutOfReach, EndIsBest, GoalGetsAll, SecondStageBest};
 
 /// What a planner keeps of a junction: its excess and its label.
-#[derive(Clone, Copy, PartialEq, Eq, Debug)]
+#[derive(Clone, Copy, PartialEq, Eq, Debug, Default)]
 pub struct Row {
     pub excess: i64,
     pub label: u32,

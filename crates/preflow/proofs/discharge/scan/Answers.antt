@@ -1,4 +1,5 @@
-use Rattle.std.proofs.Common.{◌≡◌, ◌≤◌, length, arith}
+use Rattle.std.proofs.Common.{◌≡◌, ◌≤◌, length, refl, ◌∙◌, arith}
+use Rattle.std.proofs.Math.Seq.{map-set_same}
 use borrow.Author.Differences.{up}
 use Rattle.std.proofs.lemmas.List.{length-map}
 use Rattle.std.proofs.lemmas.Int.{ints}
@@ -10,55 +11,54 @@ use Rattle.preflow.proofs.Scans.{going_none, going_more, going_all, going_stops,
 use Rattle.preflow.proofs.Standing.{scan_roomy}
 use Rattle.preflow.proofs.discharge.scan.Goals as goal
 
-pub loop-k-init : goal.loop-k-init
-loop-k-init g c =
+pub loop-held-init : goal.loop-held-init
+loop-held-init g c =
     let st = c.args.stage in
-    let h = c.requires.0.holds in
+    let h = c.requires.stands.holds in
     going_none g.C.Chooser.has g.C.Chooser.puts st.start st.goal c.args.v (arcs c.args.lines.now) c.args.rows.now c.args.chooser.now (rw h.standing.size h.standing.lines)
 
 pub bounds-rows-v : goal.bounds-rows-v
 bounds-rows-v g c =
     let st = c.args.stage in
-    let h = c.requires.0.holds in
-    let w = active_true st.junctions st.start st.goal c.args.rows.now c.args.v h.standing.size c.requires.1 in
-    omega (arith, w.inside, h.standing.size, c.loop-k.invariant.half.rows_size)
+    let h = c.requires.stands.holds in
+    let w = active_true st.junctions st.start st.goal c.args.rows.now c.args.v h.standing.size c.requires.active in
+    omega (arith, w.inside, h.standing.size, c.loop-held.invariant.half.rows_size)
 
 pub push_and_put-requires : goal.push_and_put-requires
 push_and_put-requires g c =
     let st = c.args.stage in
     let v = c.args.v in
-    let h = c.requires.0.holds in
-    let w = active_true st.junctions st.start st.goal c.args.rows.now v h.standing.size c.requires.1 in
-    let i = c.loop-k.invariant.half in (
-      sweep_here v (amount v) c.loop-k.k (arcs c.args.lines.now) c.args.rows.now c.loop-k.lines c.loop-k.rows c.index-lines-k.result (omega arith) i,
-      (
-        omega (arith, w.inside, h.standing.size, i.rows_size),
-        scan_roomy st.junctions st.start st.goal v c.loop-k.k c.requires.0.flow (arcs c.args.lines.now) c.args.rows.now (arcs c.loop-k.lines) c.loop-k.rows st.few h c.requires.0.light c.requires.1 i,
-      ),
-    )
+    let h = c.requires.stands.holds in
+    let w = active_true st.junctions st.start st.goal c.args.rows.now v h.standing.size c.requires.active in
+    let i = c.loop-held.invariant.half in
+    record {
+      line = sweep_here v (amount v) c.loop-held.held-index (arcs c.args.lines.now) c.args.rows.now c.loop-held.lines c.loop-held.rows c.held-item.result (omega arith) i;
+      junction = omega (arith, w.inside, h.standing.size, i.rows_size);
+      roomy = scan_roomy st.junctions st.start st.goal v c.loop-held.held-index c.requires.stands.flow (arcs c.args.lines.now) c.args.rows.now (arcs c.loop-held.lines) c.loop-held.rows st.few h c.requires.stands.light c.requires.active i;
+    }
 
-pub loop-k-preserved : goal.loop-k-preserved
-loop-k-preserved g c =
+pub loop-held-preserved : goal.loop-held-preserved
+loop-held-preserved g c =
     let st = c.args.stage in
     let v = c.args.v in
-    let h = c.requires.0.holds in
-    let w = active_true st.junctions st.start st.goal c.args.rows.now v h.standing.size c.requires.1 in
-    going_more g.C.Chooser.has g.C.Chooser.puts st.start st.goal v c.loop-k.k (arcs c.args.lines.now) c.args.rows.now c.args.chooser.now
-    c.loop-k.lines c.loop-k.rows c.loop-k.chooser c.index-lines-k.result c.push_and_put.new.held c.push_and_put.new.rows c.push_and_put.new.chooser
-    (omega (arith, w.inside, h.standing.size)) (omega arith) c.push_and_put.ensures.line c.push_and_put.ensures.rows c.push_and_put.ensures.puts c.loop-k.invariant
+    let h = c.requires.stands.holds in
+    let w = active_true st.junctions st.start st.goal c.args.rows.now v h.standing.size c.requires.active in
+    going_more g.C.Chooser.has g.C.Chooser.puts st.start st.goal v c.loop-held.held-index (arcs c.args.lines.now) c.args.rows.now c.args.chooser.now
+    c.loop-held.lines c.loop-held.rows c.loop-held.chooser c.held-item.result c.push_and_put.new.held c.push_and_put.new.rows c.push_and_put.new.chooser
+    (omega (arith, w.inside, h.standing.size)) (omega arith) c.push_and_put.ensures.line c.push_and_put.ensures.rows c.push_and_put.ensures.puts c.loop-held.invariant
 
-pub returns-after-loop-k : goal.returns-after-loop-k
-returns-after-loop-k g c =
+pub returns-after-loop-held : goal.returns-after-loop-held
+returns-after-loop-held g c =
     let st = c.args.stage in
-    let j : length (arcs c.loop-k.lines) ≤ c.loop-k.k = rw (length-map c.loop-k.lines arc) (omega arith) in
-    let r = going_all g.C.Chooser.has g.C.Chooser.puts st.start st.goal c.args.v c.loop-k.k (arcs c.args.lines.now) c.args.rows.now c.args.chooser.now
-    (arcs c.loop-k.lines) c.loop-k.rows c.loop-k.chooser j c.loop-k.invariant in
+    let j : length (arcs c.loop-held.lines) ≤ c.loop-held.held-index = rw (length-map c.loop-held.lines arc) (omega arith) in
+    let r = going_all g.C.Chooser.has g.C.Chooser.puts st.start st.goal c.args.v c.loop-held.held-index (arcs c.args.lines.now) c.args.rows.now c.args.chooser.now
+    (arcs c.loop-held.lines) c.loop-held.rows c.loop-held.chooser j c.loop-held.invariant in
     record { lines = r.arcs_are; rows = r.rows_are; puts = r.put }
 
 pub returns-then-rows-v-le0 : goal.returns-then-rows-v-le0
 returns-then-rows-v-le0 g c =
     let st = c.args.stage in
-    let z : up (exc c.loop-k.rows c.args.v) ≡ 0 = omega (arith, ints, one_sided (exc c.loop-k.rows c.args.v)) in
-    let r = going_stops g.C.Chooser.has g.C.Chooser.puts st.start st.goal c.args.v c.loop-k.k (arcs c.args.lines.now) c.args.rows.now c.args.chooser.now
-    (arcs c.loop-k.lines) c.loop-k.rows c.loop-k.chooser z c.loop-k.invariant in
-    record { lines = r.arcs_are; rows = r.rows_are; puts = r.put }
+    let z : up (exc c.loop-held.rows c.args.v) ≡ 0 = omega (arith, ints, one_sided (exc c.loop-held.rows c.args.v)) in
+    let r = going_stops g.C.Chooser.has g.C.Chooser.puts st.start st.goal c.args.v c.loop-held.held-index (arcs c.args.lines.now) c.args.rows.now c.args.chooser.now
+    (arcs c.loop-held.lines) c.loop-held.rows c.loop-held.chooser z c.loop-held.invariant in
+    record { lines = map-set_same arc c.loop-held.lines c.loop-held.held-index _ c.held-item.result refl ∙ r.arcs_are; rows = r.rows_are; puts = r.put }

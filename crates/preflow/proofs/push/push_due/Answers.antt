@@ -13,7 +13,8 @@ returns-then-given-eq0 c =
     record { line = sym m.arc; rows = sym m.rows; woken = rw m.none refl }
 
 pub push-requires : goal.push-requires
-push-requires c = (c.requires.0, (c.requires.1.0, (c.requires.1.1.bounded, omega (arith, c.due-given.ensures, amount_fits c.args.v (arc c.args.held.now) c.args.rows.now))))
+push-requires c =
+    record { line = c.requires.line; junction = c.requires.junction; bounded = c.requires.roomy.bounded; given = omega (arith, c.due-given.ensures, amount_fits c.args.v (arc c.args.held.now) c.args.rows.now) }
 
 pub returns-then-is_active : goal.returns-then-is_active
 returns-then-is_active c =

@@ -1,0 +1,127 @@
+//! The lines of each stage.
+ghost use borrow.Author.Differences.{down, up};
+ghost use Rattle.std.specs.Prelude.{◌≡◌, ℕ, ◌+◌, ◌-◌, ◌^◌, ◌<◌, ◌≤◌, ◌++◌, map, length, take, ◌≢◌, slice_index_or};
+ghost use Rattle.plant.specs.Fine.{Fine};
+ghost use Rattle.plant.specs.Held.{arc, arcs, lines_of, plant_of};
+ghost use Rattle.plant.specs.Plants.{no_line};
+ghost use Rattle.preflow.specs.Networks.{arc_if, line_for};
+ghost use Rattle.preflow.specs.Stages.{Light};
+ghost use Rattle.stage.specs.First.{added_line, empty_arc, first_arcs, second_arcs, shifted, surplus_lines};
+
+use super::network::Lines;
+use plant::{HeldLine, HeldPlant, Line, sum_of_highs, surplus_at};
+
+// A plant's line in stage one: low 0, and what lies between low and high; no flow yet.
+fn shifted(line: Line) -> HeldLine
+    requires { Fine 250 line }
+    ensures { arc result ≡ empty_arc (shifted line) }
+{
+    let line = Line {
+        low: 0,
+        high: line.high - line.low,
+        ..line
+    };
+    HeldLine { line, flow: 0 }
+}
+
+// The plant's lines in stage one, after those that are held.
+fn push_shifted(lines: &[Line], held: &mut Lines)
+    requires few { length lines.now + length held.old.items ≤ 1252 }
+    requires fine { (k : ℕ) → k < length lines.now → Fine 250 (slice_index_or lines.now k no_line) }
+    ensures { arcs held.new.items ≡ arcs held.old.items ++ map empty_arc (map shifted lines.now) }
+{
+    for line in lines {
+        held.push(shifted(*line));
+    }
+}
+
+// An added line with no flow.
+fn added(from: u8, to: u8, high: u32) -> HeldLine
+    requires ends { (from < 252) × (to < 252) }
+    requires apart { from ≢ to }
+    ensures { arc result ≡ empty_arc (added_line from to high) }
+{
+    let line = Line {
+        from,
+        to,
+        low: 0,
+        high,
+    };
+    HeldLine { line, flow: 0 }
+}
+
+// The line that stage one adds for a junction: from n for a surplus above zero, to n + 1 for one below zero.
+fn surplus_line(n: u8, v: u8, surplus: i64) -> Option<HeldLine>
+    requires junction { (v < n) × (n ≤ 250) }
+    requires surplus { (up surplus < 2 ^ 32) × (down surplus < 2 ^ 32) }
+    ensures { arc_if result ≡ map empty_arc (line_for n v surplus) }
+{
+    let high = surplus.unsigned_abs() as u32;
+    if surplus > 0 {
+        Some(added(n, v, high))
+    } else if surplus < 0 {
+        Some(added(v, n + 1, high))
+    } else {
+        None
+    }
+}
+
+// The lines of the junctions' surpluses, after those that are held.
+fn push_surpluses(n: u8, lines: &[Line], held: &mut Lines)
+    requires few { length lines.now ≤ 1000 }
+    requires fine { (k : ℕ) → k < length lines.now → Fine 250 (slice_index_or lines.now k no_line) }
+    requires junctions { n ≤ 250 }
+    requires room { length held.old.items ≤ 1001 }
+    ensures { arcs held.new.items ≡ arcs held.old.items ++ map empty_arc (surplus_lines n lines.now n) }
+{
+    for v in 0..n {
+        if let Some(line) = surplus_line(n, v, surplus_at(lines, v)) {
+            held.push(line);
+        }
+    }
+}
+
+/// The lines of stage one: the plant's, tank to header, and one for each surplus.
+pub fn open_first(plant: &HeldPlant, held: &mut Lines)
+    ensures lines { arcs held.new.items ≡ first_arcs (plant_of plant.now) }
+    ensures light { Light (arcs held.new.items) }
+{
+    let lines = plant.lines();
+    held.clear();
+    push_shifted(lines, held);
+    held.push(added(1, 0, sum_of_highs(lines) as u32));
+    push_surpluses(plant.junctions(), lines, held);
+}
+
+// A plant's line in stage two, with the flow that stage one found above its low.
+fn settled(line: Line, found: u32) -> HeldLine
+    requires { (Fine 250 line) × (found ≤ line.high - line.low) }
+    ensures { arc result ≡ record { line = line; flow = line.low + found } }
+{
+    HeldLine {
+        line,
+        flow: line.low + found,
+    }
+}
+
+// The plant's lines in stage two.
+fn settle_lines(lines: &[Line], held: &mut [HeldLine])
+    requires fine { (k : ℕ) → k < length lines.now → Fine 250 (slice_index_or lines.now k no_line) }
+    requires shifted { lines_of (arcs held.old) ≡ map shifted lines.now }
+    ensures { arcs held.new ≡ second_arcs lines.now (arcs held.old) }
+{
+    for (k, line) in lines.iter().enumerate() {
+        held[k] = settled(*line, held[k].flow);
+    }
+}
+
+/// The lines of stage two, with the flow that stage one found.
+pub fn open_second(plant: &HeldPlant, held: &mut Lines)
+    requires { lines_of (arcs (take (length (plant_of plant.now).lines) held.old.items)) ≡ map shifted (plant_of plant.now).lines }
+    ensures lines { arcs held.new.items ≡ second_arcs (plant_of plant.now).lines (arcs held.old.items) }
+    ensures light { Light (arcs held.new.items) }
+{
+    let lines = plant.lines();
+    held.truncate(lines.len());
+    settle_lines(lines, held.as_mut_slice());
+}
