@@ -14,7 +14,7 @@ use Rattle.law.specs.Scripts.{Script, adds, asked, asking, asks, made, makes, ou
 use Rattle.planner.specs.declared.answer.Outcome.{Outcome}
 use Rattle.planner.specs.declared.answer.Outcome.TheVariants as outcome
 use Rattle.plant.specs.declared.decline.Decline.{Decline}
-use Rattle.planner.specs.Standing.{no_tally}
+use Rattle.planner.specs.Tallies.{no_tally}
 use Rattle.plant.specs.Plants as Plants
 use Rattle.plant.specs.Plants.{Feasible}
 use Rattle.cuts.proofs.Bests.{best_exists}

@@ -8,7 +8,7 @@ use Rattle.law.specs.Phases.{Begun, Counted, Counts, Impossible, Limited, Phase,
 use Rattle.law.specs.Refusal.{refusal}
 use Rattle.planner.specs.declared.answer.Outcome.{Outcome}
 use Rattle.planner.specs.declared.answer.Outcome.TheVariants as outcome
-use Rattle.planner.specs.Standing.{no_tally}
+use Rattle.planner.specs.Tallies.{no_tally}
 use Rattle.plant.specs.declared.decline.Decline.{Decline}
 use Rattle.plant.specs.Plants.{Junctions, Leads, Wider, at, bound, crossing, line, shortfall, total, widened}
 use Rattle.reach.specs.Sets.{set_bytes, size}

@@ -5,7 +5,8 @@ use Rattle.law.specs.declared.script.Given.{Given}
 use Rattle.planner.specs.declared.answer.Side.{Side}
 use Rattle.planner.specs.declared.answer.Side.TheVariants.{Near, Far}
 use Rattle.planner.specs.declared.answer.Tally.{Tally}
-use Rattle.planner.specs.Standing.{Few, no_tally}
+use Rattle.planner.specs.Standing.{Few}
+use Rattle.planner.specs.Tallies.{no_tally}
 use Rattle.plant.specs.declared.aim.Aim.{Aim}
 use Rattle.plant.specs.declared.aim.Aim.TheVariants.{Greatest, Least}
 use Rattle.plant.specs.Plants.{Best, FarCut, Feasible, Flow, Junctions, NearCut, Plant, WorstHurdle, bound, total, with_limits}

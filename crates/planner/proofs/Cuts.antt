@@ -1,14 +1,12 @@
 -- The sets that are read, as sets of a plant and its flow.
-use Rattle.std.proofs.Common.{◌≡◌, ℕ, ◌<◌, Bool, true, List, refl, ap, ⊎_elim, arith}
+use Rattle.std.proofs.Common.{◌≡◌, ℕ, ◌<◌, Bool, true, List, refl, ⊎_elim, arith}
 use Rattle.plant.specs.declared.aim.Aim.{Aim}
 use Rattle.plant.specs.declared.aim.Aim.TheVariants.{Greatest, Least}
 use Rattle.plant.specs.declared.held_plant.HeldPlant.{HeldPlant}
-use Rattle.plant.specs.declared.line.Line.{Line}
 use Rattle.plant.specs.Held.{Arc, flows_of, lines_of, plant_of}
-use Rattle.plant.specs.Plants.{Junctions, Plant, Reached, Residual, Unreaching, no_line}
+use Rattle.plant.specs.Plants.{Junctions, Plant, Reached, Residual, Unreaching}
 use Rattle.reach.proofs.Paths.{Carries, EndsBelow, reaching, residual_reaches, turned_path, turned_reaches}
 use Rattle.reach.specs.Marking.{Reaches}
-use Rattle.std.proofs.lemmas.List.{get_or-take, length-take}
 use Rattle.std.proofs.lemmas.Bool.{both_ways, cases_Bool}
 use Rattle.planner.specs.declared.answer.Side.TheVariants.{Near, Far}
 use Rattle.planner.specs.Cuts.{CutSet, Missed}
@@ -50,14 +48,4 @@ pub held_both : (p : HeldPlant) → 1 < (plant_of p).junctions
 held_both p = omega (arith, p.sized.0)
 
 pub held_ends : (p : HeldPlant) → EndsBelow (plant_of p).junctions (plant_of p)
-held_ends p k h =
-    let l : k < p.count = omega (arith, length-take p.count p.lines) in
-    let e = get_or-take p.count p.lines k no_line l in
-    let f = p.fine k l in
-    (omega (arith, ap from_of e, f.0), omega (arith, ap to_of e, f.1))
-  where
-    from_of : Line → ℕ
-    from_of x = x.from
-
-    to_of : Line → ℕ
-    to_of x = x.to
+held_ends p k h = let f = p.fine k h in (f.0, f.1)

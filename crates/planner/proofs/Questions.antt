@@ -1,15 +1,13 @@
 -- What follows from how a question stands: its stages hold, few discharges were made, and how the next stage begins.
 use Rattle.std.proofs.Common.{◌≡◌, ℕ, ◌+◌, ◌*◌, ◌<◌, ◌≤◌, true, List, [], ◌∷◌, ◌++◌, map, length, take, sym, refl, ap, ◌∙◌, subst, mul-le-mul, arith, length-append}
-use Rattle.std.proofs.lemmas.List.{length-map, length-take, take_at, take-map, take-take}
+use Rattle.std.proofs.lemmas.List.{length-map, take_at, take-map}
 use Rattle.plant.specs.declared.aim.Aim.{Aim}
 use Rattle.plant.specs.declared.aim.Aim.TheVariants.{Greatest, Least}
 use Rattle.plant.specs.declared.held.HeldLine.{HeldLine}
 use Rattle.plant.specs.declared.held_plant.HeldPlant.{HeldPlant}
-use Rattle.plant.specs.declared.line.Line.{Line}
 use Rattle.plant.specs.Held.{Arc, arc, arcs, flows_of, line_of, lines_of, plant_of}
 use Rattle.plant.specs.Plants as plants
 use Rattle.plant.specs.Plants.{Best, Feasible, Flow, Plant}
-use Rattle.plant.proofs.Tested.{Front, front_fine}
 use Rattle.stage.specs.First.{back_line, filled, first_arcs, first_lines, second_arcs, shifted, surplus_lines}
 use Rattle.stage.specs.Model.{State, discharged}
 use Rattle.stage.specs.Runs.{Run, Short, ran, relabels}
@@ -25,25 +23,22 @@ use Rattle.preflow.specs.Stages.{Light, Stands}
 use Rattle.preflow.proofs.Opens.{first_light, highs_fit}
 use Rattle.preflow.proofs.Standing.{light_still}
 use Rattle.planner.specs.declared.answer.Tally.{Tally}
-use Rattle.planner.specs.Standing.{Done, Few, Quiet, Two, first_state, goal_of, more, no_tally, second_state, start_of}
+use Rattle.planner.specs.Standing.{Done, Few, Quiet, Two, first_state, goal_of, second_state, start_of}
+use Rattle.planner.specs.Tallies.{more, no_tally}
 
 -- ---- the plant that is held
-front : (h : HeldPlant) → Front h.n (plant_of h).lines
-front h = front_fine h.n h.count h.lines (plant_of h).lines refl h.few h.fine
-
 pub sound_plant : (h : HeldPlant) → plants.Sound (plant_of h)
 sound_plant h =
-    let f = front h in
     record {
       both = omega (arith, h.sized.0);
-      each = λ k j. let l = f.fine k j in record { from_in = l.0; to_in = l.1; apart = l.2; ordered = l.3 };
+      each = λ k j. let l = h.fine k j in record { from_in = l.0; to_in = l.1; apart = l.2; ordered = l.3 };
     }
 
 pub light_one : (h : HeldPlant) → Light (first_arcs (plant_of h))
-light_one h = first_light h.n (plant_of h).lines (front h).few (front h).fine h.n h.sized.1
+light_one h = first_light h.n (plant_of h).lines h.few h.fine h.n h.sized.1
 
 light_two : (h : HeldPlant) (ls : List Arc) → lines_of ls ≡ (plant_of h).lines → Light ls
-light_two h ls e = omega (arith, ap (plants.summed plants.every plants.high_of) e, highs_fit h.n (plant_of h).lines (front h).few (front h).fine)
+light_two h ls e = omega (arith, ap (plants.summed plants.every plants.high_of) e, highs_fit h.n (plant_of h).lines h.few h.fine)
 
 -- ---- runs one after the other
 pub ran_then : (n : ℕ) (vs ws : List ℕ) (st : State) → ran n (vs ++ ws) st ≡ ran n ws (ran n vs st)
@@ -134,7 +129,7 @@ one_length h =
 pub one_count : (h : HeldPlant) → length (first_state (plant_of h)).arcs ≤ 1252
 one_count h =
     let k = first_count (plant_of h) (sound_plant h) in
-    omega (arith, one_length h, k.count, k.few, (front h).few, h.sized.1)
+    omega (arith, one_length h, k.count, k.few, h.few, h.sized.1)
 
 pub one_roomy : (h : HeldPlant) (st : State) (one : Tally) → Done (h.n + 2) h.n (h.n + 1) (first_state (plant_of h)) st one → (one.discharges < 400000000) × (one.relabels < 400000000)
 one_roomy h st one d = roomy (h.n + 2) (length (first_state (plant_of h)).arcs) one (omega (arith, h.sized.1)) (one_count h) (one_few h st one d)
@@ -186,7 +181,7 @@ module _ (h : HeldPlant) (aim : Aim) (st : State) (one two : Tally) (w : Two aim
       ∙ ap length (two_begins.alike ∙ two_lines_begin h w.found one w.first w.quiet)
 
   pub two_roomy : (two.discharges < 400000000) × (two.relabels < 400000000)
-  two_roomy = roomy h.n (length (second_state aim (plant_of h) w.found.arcs).arcs) two (omega (arith, h.sized.1)) (omega (arith, two_count, (front h).few)) two_few
+  two_roomy = roomy h.n (length (second_state aim (plant_of h) w.found.arcs).arcs) two (omega (arith, h.sized.1)) (omega (arith, two_count, h.few)) two_few
 
 -- a settled flow is a best one
 pub settled_best : (h : HeldPlant) (aim : Aim) (st : State) (one two : Tally) → Two aim (plant_of h) st one two → Quiet (start_of aim) (goal_of aim) st.rows → Best aim (plant_of h) (flows_of st.arcs)
@@ -198,31 +193,16 @@ settled_best h Least st one two w q =
     (record { holds = two_holds h Least st one two w; quiet = q })
 
 -- ---- from stage one to stage two
-second_front : (ls : List Line) (as' : List Arc) → second_arcs ls (take (length ls) as') ≡ second_arcs ls as'
-second_front [] as' = refl
-second_front (l ∷ ls) [] = refl
-second_front (l ∷ ls) (a ∷ as') = ap (λ (bs : List Arc). record { line = l; flow = plants.low_of l + a.flow } ∷ bs) (second_front ls as')
-
-front_arcs : (hs : List HeldLine) (r count : ℕ) → r ≤ count → arcs (take r hs) ≡ take r (arcs (take count hs))
-front_arcs hs r count k = sym (take-map arc r (take count hs) ∙ ap arcs (take-take r count hs k))
-
-pub enough : (P : Plant) (hs : List HeldLine) (count : ℕ) → lines_of (arcs (take count hs)) ≡ first_lines P → length P.lines ≤ count
-enough P hs count e =
-    let a : length (take count hs) ≡ length (first_lines P) = sym (length-map (arcs (take count hs)) line_of ∙ length-map (take count hs) arc) ∙ ap length e in
+enough : (P : Plant) (hs : List HeldLine) → lines_of (arcs hs) ≡ first_lines P → length P.lines ≤ length hs
+enough P hs e =
+    let a : length hs ≡ length (first_lines P) = sym (length-map (arcs hs) line_of ∙ length-map hs arc) ∙ ap length e in
     let b = length-append (map shifted P.lines) (back_line P.lines ∷ surplus_lines P.junctions P.lines P.junctions) in
-    omega (arith, a, b, length-map P.lines shifted, length-take count hs)
+    omega (arith, a, b, length-map P.lines shifted)
 
-pub opens_lines : (P : Plant) (hs : List HeldLine) (count : ℕ) → lines_of (arcs (take count hs)) ≡ first_lines P → lines_of (arcs (take (length P.lines) hs)) ≡ map shifted P.lines
-opens_lines P hs count e =
+pub opens_lines : (P : Plant) (hs : List HeldLine) → lines_of (arcs hs) ≡ first_lines P → lines_of (arcs (take (length P.lines) hs)) ≡ map shifted P.lines
+opens_lines P hs e =
     let r = length P.lines in
-    ap lines_of (front_arcs hs r count (enough P hs count e))
-    ∙ sym (take-map line_of r (arcs (take count hs)))
+    ap lines_of (sym (take-map arc r hs))
+    ∙ sym (take-map line_of r (arcs hs))
     ∙ ap (take r) e
     ∙ take_at (map shifted P.lines) _ r (length-map P.lines shifted)
-
-pub second_same : (P : Plant) (hs : List HeldLine) (count r : ℕ) → lines_of (arcs (take count hs)) ≡ first_lines P → r ≡ length P.lines →
-    second_arcs P.lines (arcs (take r hs)) ≡ second_arcs P.lines (arcs (take count hs))
-second_same P hs count r e er =
-    ap (λ (k : ℕ). second_arcs P.lines (arcs (take k hs))) er
-    ∙ ap (second_arcs P.lines) (front_arcs hs (length P.lines) count (enough P hs count e))
-    ∙ second_front P.lines (arcs (take count hs))

@@ -10,5 +10,5 @@ limited_back : (ls : List Line) (k low high : ℕ) → k < length ls → limited
 unfolding limited
 limited_back ls k low high h = rw (get_or-set_same, set-set) (set-get_or ls k no_line)
 
-pub restored : (ls ms : List Line) (k low high : ℕ) → k < length ls → ms ≡ limited ls k low high → limited ms k (get_or ls k no_line).low (get_or ls k no_line).high ≡ ls
-restored ls ms k low high h e = rw e (limited_back ls k low high h)
+pub restored : (ls ms : List Line) (k at low high : ℕ) → at ≡ k → k < length ls → ms ≡ limited ls k low high → limited ms k (get_or ls at no_line).low (get_or ls at no_line).high ≡ ls
+restored ls ms k at low high ek h e = rw (e, ek) (limited_back ls k low high h)

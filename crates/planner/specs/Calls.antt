@@ -13,13 +13,14 @@ use Rattle.planner.specs.declared.machine.Planner.{Planner}
 use Rattle.planner.specs.declared.machine.State as mode
 use Rattle.planner.specs.declared.machine.State.TheVariants.{Idle, SettledFlow, SettledImpossible, StageOne}
 use Rattle.planner.specs.Limits.{limited}
-use Rattle.planner.specs.Standing.{first_state, no_tally, one_in, plant_in}
+use Rattle.planner.specs.Standing.{first_state, stage_in, plant_in}
+use Rattle.planner.specs.Tallies.{no_tally}
 use Rattle.planner.specs.Works.{Runs, in_work}
 
 -- a planner made with chooser c
 pub record Idles {C : Type 0} (c : C) (p : Planner C) : Type 0 where
   pub state : p.state ≡ Idle
-  pub chooser : p.chooser ≡ c
+  pub chooser : p.network.chooser ≡ c
   pub one : p.one ≡ no_tally
   pub two : p.two ≡ no_tally
 
@@ -44,10 +45,10 @@ module _ {C : Type 0} (has : C → ℕ → Bool) (clears : C → C → Type 0) (
     pub tests : tested n ls a ≡ Ok p'.plant.aim
     pub plant : plant_in p' ≡ record { junctions = n; lines = ls }
     pub state : p'.state ≡ StageOne
-    pub begins : one_in p' ≡ first_state (plant_in p')
+    pub begins : stage_in p' ≡ first_state (plant_in p')
     pub one : p'.one ≡ no_tally
     pub two : p'.two ≡ no_tally
-    pub chooser : Filled has clears puts p.chooser (begin_puts (p'.plant.n + 2) p'.plant.n (p'.plant.n + 1) (one_in p').rows) p'.chooser
+    pub chooser : Filled has clears puts p.network.chooser (begin_puts (p'.plant.n + 2) p'.plant.n (p'.plant.n + 1) (stage_in p').rows) p'.network.chooser
 
   abbrev pub Starts : ℕ → List Line → ℕ → Planner C → Result (Unit {0}) Decline → Planner C → Type 0
   Starts n ls a p (Ok x) p' = Started n ls a p p'

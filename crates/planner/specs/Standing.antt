@@ -1,14 +1,16 @@
 -- How a planner stands between two calls.
-use Rattle.std.specs.Prelude.{◌≡◌, ℕ, ◌+◌, ◌*◌, ◌<◌, Bool, true, false, List, length, take}
+use Rattle.std.specs.Prelude.{◌≡◌, ℕ, ◌+◌, ◌*◌, ◌<◌, Bool, true, false, List, length}
 use Rattle.plant.specs.declared.aim.Aim.{Aim}
 use Rattle.plant.specs.declared.aim.Aim.TheVariants.{Greatest, Least}
-use Rattle.plant.specs.Held.{Arc, arcs, plant_of}
+use Rattle.plant.specs.Held.{Arc, plant_of}
 use Rattle.plant.specs.Plants.{Plant}
 use Rattle.stage.specs.declared.Row.{Row}
 use Rattle.stage.specs.First.{filled, first_arcs, first_lines, second_arcs}
 use Rattle.stage.specs.Model.{State, active, begun}
 use Rattle.stage.specs.Runs.{Run, Tied, ran, relabels}
+use Rattle.preflow.specs.Networks.{state_in}
 use Rattle.planner.specs.declared.answer.Tally.{Tally}
+use Rattle.planner.specs.Tallies.{no_tally}
 use Rattle.planner.specs.declared.machine.Planner.{Planner}
 use Rattle.planner.specs.declared.machine.State as mode
 use Rattle.planner.specs.declared.machine.State.TheVariants.{Idle, StageOne, StageTwo, SettledFlow, SettledImpossible}
@@ -21,13 +23,6 @@ start_of Least = 1
 abbrev pub goal_of : Aim → ℕ
 goal_of Greatest = 1
 goal_of Least = 0
-
-abbrev pub no_tally : Tally
-no_tally = record { relabels = 0; discharges = 0 }
-
--- m discharges more, r of them with a relabel
-abbrev pub more : Tally → ℕ → ℕ → Tally
-more t m r = record { relabels = t.relabels + r; discharges = t.discharges + m }
 
 -- few relabels and few discharges, of n junctions and m lines
 pub record Few (n m : ℕ) (tally : Tally) : Type 0 where
@@ -71,53 +66,43 @@ pub record Two (aim : Aim) (P : Plant) (st : State) (one two : Tally) : Type 0 w
   pub full : filled P.junctions found.arcs ≡ true
   pub done : Done P.junctions (start_of aim) (goal_of aim) (second_state aim P found.arcs) st two
 
--- the state of stage one or two over lines and all rows
-abbrev pub one_state : Plant → List Arc → List Row → State
-one_state P ls rs = record { arcs = ls; rows = take (P.junctions + 2) rs }
-
-abbrev pub two_state : Plant → List Arc → List Row → State
-two_state P ls rs = record { arcs = ls; rows = take P.junctions rs }
-
 -- settled with a flow
-pub record Settled (aim : Aim) (P : Plant) (ls : List Arc) (rs : List Row) (one two : Tally) : Type 0 where
-  pub two_done : Two aim P (two_state P ls rs) one two
-  pub quiet : Quiet (start_of aim) (goal_of aim) (take P.junctions rs)
+pub record Settled (aim : Aim) (P : Plant) (st : State) (one two : Tally) : Type 0 where
+  pub two_done : Two aim P st one two
+  pub quiet : Quiet (start_of aim) (goal_of aim) st.rows
 
 -- settled as impossible
-pub record Stuck (P : Plant) (ls : List Arc) (rs : List Row) (one two : Tally) : Type 0 where
-  pub one_done : One P (one_state P ls rs) one two
-  pub quiet : Quiet P.junctions (P.junctions + 1) (take (P.junctions + 2) rs)
-  pub unfilled : filled P.junctions ls ≡ false
+pub record Stuck (P : Plant) (st : State) (one two : Tally) : Type 0 where
+  pub one_done : One P st one two
+  pub quiet : Quiet P.junctions (P.junctions + 1) st.rows
+  pub unfilled : filled P.junctions st.arcs ≡ false
 
-abbrev pub Stand : mode.State → Aim → Plant → List Arc → List Row → Tally → Tally → Type 0
-Stand Idle aim P ls rs one two = (one ≡ no_tally) × (two ≡ no_tally)
-Stand StageOne aim P ls rs one two = One P (one_state P ls rs) one two
-Stand StageTwo aim P ls rs one two = Two aim P (two_state P ls rs) one two
-Stand SettledFlow aim P ls rs one two = Settled aim P ls rs one two
-Stand SettledImpossible aim P ls rs one two = Stuck P ls rs one two
+abbrev pub Stand : mode.State → Aim → Plant → State → Tally → Tally → Type 0
+Stand Idle aim P st one two = (one ≡ no_tally) × (two ≡ no_tally)
+Stand StageOne aim P st one two = One P st one two
+Stand StageTwo aim P st one two = Two aim P st one two
+Stand SettledFlow aim P st one two = Settled aim P st one two
+Stand SettledImpossible aim P st one two = Stuck P st one two
 
--- the plant of a planner, its lines, and the state of each stage
+-- the plant of a planner, the state of the stage, and its lines with their flows
 abbrev pub plant_in : {C : Type 0} → Planner C → Plant
 plant_in p = plant_of p.plant
 
+abbrev pub stage_in : {C : Type 0} → Planner C → State
+stage_in p = state_in p.network
+
 abbrev pub arcs_in : {C : Type 0} → Planner C → List Arc
-arcs_in p = arcs (take p.count p.lines)
-
-abbrev pub one_in : {C : Type 0} → Planner C → State
-one_in p = one_state (plant_in p) (arcs_in p) p.rows
-
-abbrev pub two_in : {C : Type 0} → Planner C → State
-two_in p = two_state (plant_in p) (arcs_in p) p.rows
+arcs_in p = (stage_in p).arcs
 
 module _ {C : Type 0} (has : C → ℕ → Bool) where
   -- while a stage is open, the chooser holds just the active junctions
   abbrev pub Ties : mode.State → Aim → Plant → List Row → C → Type 0
   Ties Idle aim P rs c = Unit {0}
-  Ties StageOne aim P rs c = Tied has P.junctions (P.junctions + 1) (take (P.junctions + 2) rs) c
-  Ties StageTwo aim P rs c = Tied has (start_of aim) (goal_of aim) (take P.junctions rs) c
+  Ties StageOne aim P rs c = Tied has P.junctions (P.junctions + 1) rs c
+  Ties StageTwo aim P rs c = Tied has (start_of aim) (goal_of aim) rs c
   Ties SettledFlow aim P rs c = Unit {0}
   Ties SettledImpossible aim P rs c = Unit {0}
 
   pub record Sound (p : Planner C) : Type 0 where
-    pub stand : Stand p.state p.plant.aim (plant_in p) (arcs_in p) p.rows p.one p.two
-    pub ties : Ties p.state p.plant.aim (plant_in p) p.rows p.chooser
+    pub stand : Stand p.state p.plant.aim (plant_in p) (stage_in p) p.one p.two
+    pub ties : Ties p.state p.plant.aim (plant_in p) (stage_in p).rows p.network.chooser

@@ -1,11 +1,12 @@
 -- What a reading sees of a planner.
-use Rattle.std.specs.Prelude.{List, take}
+use Rattle.std.specs.Prelude.{List}
 use Rattle.plant.specs.declared.aim.Aim.{Aim}
-use Rattle.plant.specs.Held.{Arc, arcs, plant_of}
+use Rattle.plant.specs.Held.{Arc, plant_of}
 use Rattle.plant.specs.Plants.{Plant}
 use Rattle.planner.specs.declared.answer.Tally.{Tally}
 use Rattle.planner.specs.declared.machine.Planner.{Planner}
 use Rattle.planner.specs.declared.machine.State.{State}
+use Rattle.planner.specs.Standing.{arcs_in}
 
 -- where the planner stands, its question, the lines of its stage with their flows, and its tallies
 pub record View : Type 0 where
@@ -22,7 +23,7 @@ view p = record {
   state = p.state;
   plant = plant_of p.plant;
   aim = p.plant.aim;
-  arcs = arcs (take p.count p.lines);
+  arcs = arcs_in p;
   one = p.one;
   two = p.two;
 }

@@ -1,9 +1,7 @@
 //! What a planner holds.
-ghost use Rattle.std.specs.Prelude.{◌≤◌};
-
 use super::answer::Tally;
-use plant::{HeldLine, HeldPlant};
-use preflow::{HELD_LINES, Rows};
+use plant::HeldPlant;
+use preflow::Network;
 
 pub mod calls;
 pub mod readings;
@@ -11,7 +9,7 @@ pub mod stages;
 pub mod trials;
 
 /// Where a planner stands.
-#[derive(Clone, Copy)]
+#[derive(Clone, Copy, PartialEq, Eq, Debug)]
 pub enum State {
     Idle,
     StageOne,
@@ -20,16 +18,13 @@ pub enum State {
     SettledImpossible,
 }
 
-/// A planner with the chooser that it was made with.
+/// A planner with the chooser that it was made with: its question, the network of the stage, what each stage has done,
+/// and where it stands.
 #[derive(Drop)]
 pub struct Planner<C> {
-    chooser: C,
     plant: HeldPlant,
-    lines: [HeldLine; HELD_LINES],
-    count: usize,
-    rows: Rows,
+    network: Network<C>,
     one: Tally,
     two: Tally,
     state: State,
-    ghost few: { count ≤ 1252 },
 }

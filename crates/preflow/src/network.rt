@@ -48,7 +48,8 @@ impl<C: Chooser> Network<C> {
 
     /// The lines with their flows.
     pub fn lines(&self) -> &[HeldLine]
-        ensures { result.now ≡ self.now.lines.items }
+        ensures value { result.now ≡ self.now.lines.items }
+        ensures few { length result.now ≤ 1252 }
     {
         self.lines.as_slice()
     }

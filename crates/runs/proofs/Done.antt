@@ -20,7 +20,8 @@ use Rattle.planner.specs.declared.machine.State.TheVariants.{Idle, SettledFlow, 
 use Rattle.planner.specs.Calls as calls
 use Rattle.planner.specs.Calls.{Starts, Started, Trials, Works, TrialFails, bad_work, limits_fail, nothing, number, plant_fails}
 use Rattle.planner.specs.Limits.{limited}
-use Rattle.planner.specs.Standing.{Sound, Stand, arcs_in, more, no_tally, plant_in, two_in}
+use Rattle.planner.specs.Standing.{Sound, Stand, arcs_in, plant_in, two_in}
+use Rattle.planner.specs.Tallies.{more, no_tally}
 use Rattle.planner.specs.Works.{Runs, SomeActive, Ways, in_one, in_two, in_work, through}
 use Rattle.planner.proofs.Laws.{flow_best, limits, stuck_none}
 use Rattle.planner.proofs.Questions.{sound_plant, two_feasible}

@@ -17,7 +17,8 @@ use Rattle.planner.specs.declared.machine.State.{State}
 use Rattle.planner.specs.declared.machine.State.TheVariants.{Idle, SettledFlow, SettledImpossible, StageOne, StageTwo}
 use Rattle.planner.specs.Cuts.{Extreme}
 use Rattle.planner.specs.Readings.{CrossingSeen, CutSeen, CutShown, Filled, HurdleSeen, HurdleShown, Lending, Listed, Unless, flow_answer, test_flow, test_hurdle, total_answer}
-use Rattle.planner.specs.Standing.{Sound, Stand, arcs_in, no_tally, plant_in}
+use Rattle.planner.specs.Standing.{Sound, Stand, arcs_in, plant_in}
+use Rattle.planner.specs.Tallies.{no_tally}
 use Rattle.planner.specs.Views.{View, view}
 use Rattle.planner.proofs.Laws.{flow_lines}
 use Rattle.plant.specs.declared.decline.Decline.{Decline}

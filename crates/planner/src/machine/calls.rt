@@ -3,11 +3,11 @@ ghost use Rattle.std.specs.Prelude.{◌≡◌};
 ghost use Rattle.planner.specs.Calls.{Idles, Starts, Works, bad_work};
 ghost use Rattle.planner.specs.Standing.{Sound};
 
-use super::super::answer::{NO_TALLY, Outcome};
+use super::super::answer::{Outcome, Tally};
 use super::{Planner, State};
 use chooser::Chooser;
-use plant::{BLANK_HELD, Decline, HeldPlant, Line};
-use preflow::{BLANK_ROW, HELD_LINES, ROWS};
+use plant::{Decline, HeldPlant, Line};
+use preflow::Network;
 
 /// The most that one work may ask for.
 pub const MAX_WORK: u32 = 60_000;
@@ -26,13 +26,10 @@ impl<C: Chooser> Planner<C> {
         ensures sound { Sound C.Chooser.has result }
     {
         Planner {
-            chooser,
             plant: HeldPlant::blank(),
-            lines: [BLANK_HELD; HELD_LINES],
-            count: 0,
-            rows: [BLANK_ROW; ROWS],
-            one: NO_TALLY,
-            two: NO_TALLY,
+            network: Network::new(chooser),
+            one: Tally::default(),
+            two: Tally::default(),
             state: State::Idle,
         }
     }
@@ -44,8 +41,7 @@ impl<C: Chooser> Planner<C> {
         ensures sound { Sound C.Chooser.has self.new }
     {
         let plant = HeldPlant::new(n, lines, aim)?;
-        self.plant = plant;
-        self.open_stage_one();
+        self.open_stage_one(plant);
         Ok(())
     }
 
@@ -55,12 +51,13 @@ impl<C: Chooser> Planner<C> {
         ensures works { Works C.Chooser.has C.Chooser.clears C.Chooser.puts C.Chooser.takes number self.old result self.new }
         ensures sound { Sound C.Chooser.has self.new }
     {
-        if !self.is_in_work() {
-            return Err(Decline::NothingInWork);
+        match self.state {
+            State::StageOne | State::StageTwo if is_bad_number(number) => Err(Decline::WorkNumber),
+            State::StageOne => Ok(self.run_from_one(number)),
+            State::StageTwo => Ok(self.run_from_two(number)),
+            State::Idle | State::SettledFlow | State::SettledImpossible => {
+                Err(Decline::NothingInWork)
+            }
         }
-        if is_bad_number(number) {
-            return Err(Decline::WorkNumber);
-        }
-        Ok(self.run(number))
     }
 }

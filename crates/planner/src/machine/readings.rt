@@ -134,7 +134,7 @@ impl<C: Chooser> Planner<C> {
         ensures shown { Sound C.Chooser.has self.now → test_flow self.now.state ≡ None → CutShown (view self.now) side (marked result) }
     {
         let n = self.plant.junctions();
-        let lines = &self.lines[0..self.count];
+        let lines = self.network.lines();
         cut_marks(side, self.plant.aim(), n, lines)
     }
 
@@ -143,7 +143,7 @@ impl<C: Chooser> Planner<C> {
         ensures residuals { HurdleSet (view self.now).plant.junctions (view self.now).arcs (marked result) }
         ensures shown { Sound C.Chooser.has self.now → test_hurdle self.now.state ≡ None → HurdleShown (view self.now) (marked result) }
     {
-        hurdle_marks(self.plant.junctions(), &self.lines[0..self.count])
+        hurdle_marks(self.plant.junctions(), self.network.lines())
     }
 
     /// The total of the flow.
@@ -152,7 +152,7 @@ impl<C: Chooser> Planner<C> {
         ensures facts { Sound C.Chooser.has self.now → Facts (view self.now).state (view self.now) }
     {
         expect_flow(self.state)?;
-        Ok(total_of(&self.lines[0..self.count]))
+        Ok(total_of(self.network.lines()))
     }
 
     /// The flow of one line.
@@ -161,7 +161,7 @@ impl<C: Chooser> Planner<C> {
         ensures facts { Sound C.Chooser.has self.now → Facts (view self.now).state (view self.now) }
     {
         expect_flow(self.state)?;
-        let lines = &self.lines[0..self.count];
+        let lines = self.network.lines();
         let at = line as usize;
         if at >= lines.len() {
             return Err(Decline::LineNumber);

@@ -7,28 +7,25 @@ ghost use Rattle.planner.specs.Standing.{Sound};
 use super::super::answer::Outcome;
 use super::Planner;
 use chooser::Chooser;
-use plant::{Decline, Line, test_plant, test_trial};
+use plant::{Decline, Line, Trial, test_plant, test_trial};
 
 // Puts limits into one line of a list.
-fn put_limits(lines: &mut [Line], at: usize, low: u32, high: u32)
-    requires { at < length lines.old }
-    ensures { lines.new ≡ limited lines.old at low high }
+fn put_limits(lines: &mut [Line], trial: Trial)
+    requires { trial.line < length lines.old }
+    ensures { lines.new ≡ limited lines.old trial.line trial.low trial.high }
 {
-    let own = lines[at];
+    let at = usize::from(trial.line);
     lines[at] = Line {
-        from: own.from,
-        to: own.to,
-        low,
-        high,
+        low: trial.low,
+        high: trial.high,
+        ..lines[at]
     };
 }
 
 // A list with other limits on one line, which has its own back when the guard goes.
 struct Restore<'a> {
     lines: &'a mut [Line],
-    at: usize,
-    low: u32,
-    high: u32,
+    own: Trial,
 }
 
 impl Restore<'_> {
@@ -44,19 +41,12 @@ impl Restore<'_> {
 
 impl Drop for Restore<'_> {
     fn drop(self)
-        requires { self.at < length self.lines.now }
-        ensures { self.exit.0.now ≡ limited self.entry.lines.now self.entry.at self.entry.low self.entry.high }
+        requires { self.own.line < length self.lines.now }
+        ensures { self.exit.0.now ≡ limited self.entry.lines.now self.entry.own.line self.entry.own.low self.entry.own.high }
     {
-        let at = self.at;
-        let low = self.low;
-        let high = self.high;
-        put_limits(self.lines, at, low, high);
-        let Restore {
-            lines: _,
-            at: _,
-            low: _,
-            high: _,
-        } = self;
+        let own = self.own;
+        put_limits(self.lines, own);
+        let Restore { lines: _, own: _ } = self;
     }
 }
 
@@ -67,28 +57,27 @@ impl<C: Chooser> Planner<C> {
         n: u8,
         lines: &mut [Line],
         aim: u8,
-        line: u16,
-        low: u32,
-        high: u32,
+        trial: Trial,
     ) -> Result<Outcome, Decline>
         requires { Sound C.Chooser.has self.old }
-        ensures trials { Trials C.Chooser.has C.Chooser.clears C.Chooser.puts C.Chooser.takes n lines.old aim line low high self.old result self.new }
+        ensures trials { Trials C.Chooser.has C.Chooser.clears C.Chooser.puts C.Chooser.takes n lines.old aim trial.line trial.low trial.high self.old result self.new }
         ensures sound { Sound C.Chooser.has self.new }
         ensures back { lines.new ≡ lines.old }
     {
         test_plant(n, lines, aim)?;
-        test_trial(lines.len(), line, low, high)?;
-        let at = line as usize;
-        let own = lines[at];
+        test_trial(lines.len(), &trial)?;
+        let own = lines[usize::from(trial.line)];
         let guard = Restore {
             lines,
-            at,
-            low: own.low,
-            high: own.high,
+            own: Trial {
+                line: trial.line,
+                low: own.low,
+                high: own.high,
+            },
         };
-        put_limits(guard.lines, at, low, high);
+        put_limits(guard.lines, trial);
         guard.start(self, n, aim)?;
-        let (outcome, _) = self.run(u32::MAX);
+        let (outcome, _) = self.run_from_one(u32::MAX);
         Ok(outcome)
     }
 }

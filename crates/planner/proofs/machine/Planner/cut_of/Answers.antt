@@ -1,5 +1,6 @@
-use Rattle.std.proofs.Common.{◌≡◌, ℕ, ◌-◌, take, arith, subst}
+use Rattle.std.proofs.Common.{List, subst}
 use Rattle.plant.specs.declared.aim.Aim.{Aim}
+use Rattle.plant.specs.declared.held.HeldLine.{HeldLine}
 use Rattle.plant.specs.Held.{arcs, marked}
 use Rattle.planner.specs.Cuts.{CutSet}
 use Rattle.planner.specs.Standing.{arcs_in}
@@ -10,9 +11,7 @@ pub returns-clause-shown : goal.returns-clause-shown
 returns-clause-shown g c =
     let p = c.args.self.now in
     let S = marked c.cut_marks.result in
-    let n : p.count - 0 ≡ p.count = omega arith in
-    let read : CutSet c.args.side c.aim.result c.junctions-n.result (arcs (take (p.count - 0) p.lines)) S = c.cut_marks.ensures in
     λ s t. cut_shown g.C.Chooser.has p c.args.side S s t
     (subst (λ (a : Aim). CutSet c.args.side a p.plant.n (arcs_in p) S) c.aim.ensures
-    (subst (λ (m : ℕ). CutSet c.args.side c.aim.result m (arcs_in p) S) c.junctions-n.ensures.value
-    (subst (λ (m : ℕ). CutSet c.args.side c.aim.result c.junctions-n.result (arcs (take m p.lines)) S) n read)))
+    (subst (λ m. CutSet c.args.side c.aim.result m (arcs_in p) S) c.junctions-n.ensures.value
+    (subst (λ (hs : List HeldLine). CutSet c.args.side c.aim.result c.junctions-n.result (arcs hs) S) c.lines-lines.ensures.value c.cut_marks.ensures)))

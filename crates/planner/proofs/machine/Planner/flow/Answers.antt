@@ -1,4 +1,4 @@
-use Rattle.std.proofs.Common.{◌≡◌, ℕ, ◌-◌, take, ap, arith}
+use Rattle.std.proofs.Common.{sym, ap}
 use Rattle.plant.specs.Held.{arcs}
 use Rattle.planner.specs.Readings.{test_flow}
 use Rattle.planner.specs.Views.{view}
@@ -9,16 +9,12 @@ use Rattle.planner.proofs.machine.Planner.flow.Goals as goal
 pub returns-then-at-lines-clause-answer : goal.returns-then-at-lines-clause-answer
 returns-then-at-lines-clause-answer g c =
     let s = c.args.self.now in
-    let n : s.count ≡ s.count - 0 = omega arith in
-    flow_declined (view s) (take (s.count - 0) s.lines) c.args.line (passed (test_flow s.state) c.in_ok-expect_flow.ensures)
-    (ap (λ (m : ℕ). arcs (take m s.lines)) n) c.if-at-lines.true
+    flow_declined (view s) c.lines-lines.result.now c.args.line (passed (test_flow s.state) c.in_ok-expect_flow.ensures) (ap arcs (sym c.lines-lines.ensures.value)) c.if-at-lines.true
 
 pub returns-clause-answer : goal.returns-clause-answer
 returns-clause-answer g c =
     let s = c.args.self.now in
-    let n : s.count ≡ s.count - 0 = omega arith in
-    flow_answered (view s) (take (s.count - 0) s.lines) c.args.line c.index-lines-at.result (passed (test_flow s.state) c.in_ok-expect_flow.ensures)
-    (ap (λ (m : ℕ). arcs (take m s.lines)) n) c.if-at-lines.false
+    flow_answered (view s) c.lines-lines.result.now c.args.line c.index-lines-at.result (passed (test_flow s.state) c.in_ok-expect_flow.ensures) (ap arcs (sym c.lines-lines.ensures.value)) c.if-at-lines.false
 
 pub returns-in_err-expect_flow-clause-facts : goal.returns-in_err-expect_flow-clause-facts
 returns-in_err-expect_flow-clause-facts g c = facts g.C.Chooser.has c.args.self.now

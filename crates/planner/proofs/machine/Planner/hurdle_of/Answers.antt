@@ -1,4 +1,5 @@
-use Rattle.std.proofs.Common.{◌≡◌, ℕ, ◌-◌, take, arith, subst}
+use Rattle.std.proofs.Common.{List, subst}
+use Rattle.plant.specs.declared.held.HeldLine.{HeldLine}
 use Rattle.plant.specs.Held.{arcs, marked}
 use Rattle.planner.specs.Cuts.{HurdleSet}
 use Rattle.planner.specs.Standing.{arcs_in}
@@ -9,8 +10,6 @@ pub returns-clause-shown : goal.returns-clause-shown
 returns-clause-shown g c =
     let p = c.args.self.now in
     let S = marked c.hurdle_marks.result in
-    let n : p.count - 0 ≡ p.count = omega arith in
-    let read : HurdleSet c.junctions.result (arcs (take (p.count - 0) p.lines)) S = c.hurdle_marks.ensures in
     λ s t. hurdle_shown g.C.Chooser.has p S s t
-    (subst (λ (m : ℕ). HurdleSet m (arcs_in p) S) c.junctions.ensures.value
-    (subst (λ (m : ℕ). HurdleSet c.junctions.result (arcs (take m p.lines)) S) n read))
+    (subst (λ m. HurdleSet m (arcs_in p) S) c.junctions.ensures.value
+    (subst (λ (hs : List HeldLine). HurdleSet c.junctions.result (arcs hs) S) c.lines.ensures.value c.hurdle_marks.ensures))

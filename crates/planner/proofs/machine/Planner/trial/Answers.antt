@@ -8,7 +8,7 @@ returns-in_err-test_trial g c =
     let a = c.args in
     let er : c.from_residual-in_err-test_trial.result ≡ Err c.in_err-test_trial.field-0.0 = search rules in
     record {
-      trials = trial_fails g.C.Chooser.has g.C.Chooser.clears g.C.Chooser.puts g.C.Chooser.takes a.n a.aim a.line a.low a.high a.lines.now a.lines.now _ c.in_ok-test_plant.ensures
+      trials = trial_fails g.C.Chooser.has g.C.Chooser.clears g.C.Chooser.puts g.C.Chooser.takes a.n a.aim a.trial.line a.trial.low a.trial.high a.lines.now a.lines.now _ c.in_ok-test_plant.ensures
           a.self.now c.from_residual-in_err-test_trial.result c.in_err-test_trial.field-0.0 c.in_err-test_trial.ensures er;
       sound = search rules;
       back = search rules;
@@ -16,23 +16,23 @@ returns-in_err-test_trial g c =
 
 pub returns-in_err-start : goal.returns-in_err-start
 returns-in_err-start g c =
-    let h : c.args.line < length c.args.lines.now = search rules in
+    let h : c.args.trial.line < length c.args.lines.now = search rules in
     let a = c.args in
     record {
-      trials = never_fails g.C.Chooser.has g.C.Chooser.clears g.C.Chooser.puts g.C.Chooser.takes a.n a.aim a.line a.low a.high a.lines.now c.put_limits.new.lines _ c.in_ok-test_plant.ensures
+      trials = never_fails g.C.Chooser.has g.C.Chooser.clears g.C.Chooser.puts g.C.Chooser.takes a.n a.aim a.trial.line a.trial.low a.trial.high a.lines.now c.put_limits.new.lines _ c.in_ok-test_plant.ensures
           _ c.in_ok-test_trial.ensures c.put_limits.ensures c.in_err-start.ensures.starts.0;
       sound = search rules;
-      back = c.drop-guard.ensures ∙ restored _ _ _ _ _ h c.put_limits.ensures;
+      back = c.drop-guard.ensures ∙ restored _ _ _ _ _ _ c.from.ensures h c.put_limits.ensures;
     }
 
 pub returns : goal.returns
 returns g c =
-    let h : c.args.line < length c.args.lines.now = search rules in
+    let h : c.args.trial.line < length c.args.lines.now = search rules in
     let a = c.args in
     record {
-      trials = trial_done g.C.Chooser.has g.C.Chooser.clears g.C.Chooser.puts g.C.Chooser.takes a.n a.aim a.line a.low a.high a.lines.now c.put_limits.new.lines _ c.in_ok-test_plant.ensures
-          a.self.now c.start.new.planner c.run-outcome.new.self c.run-outcome.result.1 c.run-outcome.result.0 c.in_ok-test_trial.ensures c.put_limits.ensures c.run-outcome.ensures.sound
-          c.in_ok-start.ensures.starts c.run-outcome.ensures.runs;
+      trials = trial_done g.C.Chooser.has g.C.Chooser.clears g.C.Chooser.puts g.C.Chooser.takes a.n a.aim a.trial.line a.trial.low a.trial.high a.lines.now c.put_limits.new.lines _ c.in_ok-test_plant.ensures
+          a.self.now c.start.new.planner c.run_from_one-outcome.new.self c.run_from_one-outcome.result.1 c.run_from_one-outcome.result.0 c.in_ok-test_trial.ensures c.put_limits.ensures c.run_from_one-outcome.ensures.sound
+          c.in_ok-start.ensures.starts c.run_from_one-outcome.ensures.runs;
       sound = search rules;
-      back = c.drop-guard-2.ensures ∙ restored _ _ _ _ _ h c.put_limits.ensures;
+      back = c.drop-guard-2.ensures ∙ restored _ _ _ _ _ _ c.from.ensures h c.put_limits.ensures;
     }

@@ -1,10 +1,10 @@
-use Rattle.std.proofs.Common.{sym, refl, ◌∙◌}
+use Rattle.std.proofs.Common.{sym, refl, ap, ⊎_elim}
 use Rattle.planner.specs.Calls.{nothing, number}
+use Rattle.planner.specs.Works.{in_work}
 use Rattle.planner.proofs.machine.Planner.work.Goals as goal
 
-pub returns-then-not-is_in_work : goal.returns-then-not-is_in_work
-returns-then-not-is_in_work g c = record { works = (nothing (sym c.is_in_work.ensures ∙ c.if-not-is_in_work.true), refl); sound = c.requires }
+pub returns-in-StageOne-clause-works : goal.returns-in-StageOne-clause-works
+returns-in-StageOne-clause-works g c = (number (⊎_elim (ap in_work) (ap in_work) c.in-StageOne.is) (sym c.if-is_bad_number.ensures), refl)
 
-pub returns-then-is_bad_number : goal.returns-then-is_bad_number
-returns-then-is_bad_number g c =
-    record { works = (number (sym c.is_in_work.ensures ∙ c.if-not-is_in_work.false) (sym c.is_bad_number.ensures ∙ c.if-is_bad_number.true), refl); sound = c.requires }
+pub returns-in-Idle-2 : goal.returns-in-Idle-2
+returns-in-Idle-2 g c = record { works = (nothing (⊎_elim (ap in_work) (⊎_elim (ap in_work) (ap in_work)) c.in-Idle.is), refl); sound = c.requires }
