@@ -4,6 +4,7 @@
 ghost use Rattle.std.specs.Prelude.{◌≡◌, ℕ, ◌<◌, Bool, true, Option};
 ghost use Rattle.chooser.specs.Sets.{Added, Empty, Taken};
 
+mod arrived;
 mod fifo;
 mod highest;
 
