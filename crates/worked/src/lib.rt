@@ -37,9 +37,5 @@ pub fn worked_plants() -> usize
 pub fn worked_total(row: usize) -> Option<i64>
     ensures { TotalAt table row result }
 {
-    if row < TOTALS.len() {
-        TOTALS[row]
-    } else {
-        None
-    }
+    TOTALS.get(row).copied().flatten()
 }
