@@ -5,6 +5,7 @@ pub mod going;
 
 /// First in, first out, over the caller's places, which are used again round and round.
 /// `head` is the place of the first item; at the end of the places it stands for the first place.
+// No model: users rely on `sound`, that no more is held than there are places, and would lose it behind a value.
 #[derive(Drop)]
 pub struct Queue<'a, T> {
     places: &'a mut [T],
