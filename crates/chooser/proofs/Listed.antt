@@ -1,8 +1,9 @@
 -- A list that holds each number with a set flag once, and no other.
-use Rattle.std.proofs.Common.{◌≡◌, ℕ, zero, suc, ◌+◌, ◌<◌, ◌≤◌, Bool, true, false, cond, eqb, List, [], ◌∷◌, ◌++◌, length, get_or, take, set, replicate, sym, refl, ap, ◌∙◌, subst, inl, inr, arith, get_or-set_other, get_or-set_same}
-use Rattle.chooser.specs.Flags.{unset}
+use Rattle.std.proofs.Common.{◌≡◌, ℕ, zero, suc, ◌+◌, ◌<◌, ◌≤◌, Bool, true, false, cond, eqb, List, [], ◌∷◌, ◌++◌, length, get_or, take, drop, set, replicate, remove, sym, refl, ap, ◌∙◌, subst, inl, inr, arith, get_or-set_other, get_or-set_same}
+use Rattle.std.proofs.Math.Seq.{drop-cons}
+use Rattle.chooser.specs.Flags.{flag_below, unset}
 use Rattle.chooser.specs.Lists.{times, flag}
-use Rattle.std.proofs.lemmas.List.{get_or-take, length-take-le}
+use Rattle.std.proofs.lemmas.List.{get_or-take, length-take-le, take-append-drop}
 use Rattle.std.proofs.lemmas.Bool.{cases_eq, cases_Bool, cond-true, cond-false, eq-eqb, ne_eqb}
 
 abbrev pub Listed : List ℕ → List Bool → Type 0
@@ -66,30 +67,30 @@ listed_take xs ys m v on small l u =
       | inr n ↦ omega (arith, times_append u xs ys, times_append u xs (v ∷ ys), miss u v n, l u, ap (λ (b : Bool). cond b 1 zero) (get_or-set_other m v u false false n))
     ]
 
-pub listed_first : (xs ys : List ℕ) (v : ℕ) (m : List Bool) → xs ≡ v ∷ ys → Listed xs m → get_or m v false ≡ true
-listed_first xs ys v m e l = listed_at (v ∷ ys) m (subst (λ (zs : List ℕ). Listed zs m) e l) 0 (omega arith)
-
 pub listed_none : (n : ℕ) → Listed [] (replicate n false)
 listed_none n v = sym (flag_off (replicate n false) v (unset n v))
 
--- the same where the list is the first n places
-pub member_at : (o : List ℕ) (n : ℕ) (m : List Bool) → n ≤ length o → Listed (take n o) m → (k : ℕ) → k < n → get_or m (get_or o k 0) false ≡ true
-member_at o n m l all k h =
-    ap (λ u. get_or m u false) (sym (get_or-take n o k 0 h)) ∙ listed_at (take n o) m all k (omega (arith, length-take-le n o l))
+-- a list, and one of its places
+pub around : (xs : List ℕ) (q : ℕ) → q < length xs → xs ≡ take q xs ++ get_or xs q 0 ∷ drop (suc q) xs
+around xs q h = sym (take-append-drop q xs) ∙ ap (λ ys. take q xs ++ ys) (drop-cons xs q 0 h)
+
+-- one less, from a place
+pub listed_remove : (xs : List ℕ) (m : List Bool) (q : ℕ) → q < length xs → Listed xs m → Listed (remove xs q) (set m (get_or xs q 0) false)
+listed_remove xs m q h l =
+    let on = listed_at xs m l q h in
+    listed_take (take q xs) (drop (suc q) xs) m (get_or xs q 0) on (flag_below m (get_or xs q 0) on) (subst (λ (ys : List ℕ). Listed ys m) (around xs q h) l)
 
 -- what bounds each place bounds each member
-pub highest_of : (o : List ℕ) (n : ℕ) (m : List Bool) (ls : List ℕ) (top : ℕ) → n ≤ length o → Listed (take n o) m
-    → ((k : ℕ) → k < n → get_or ls (get_or o k 0) 0 ≤ top) → (u : ℕ) → get_or m u false ≡ true → get_or ls u 0 ≤ top
-highest_of o n m ls top l all h u on =
-    let p = place_listed (take n o) m all u on in
-    let small : p.0 < n = omega (arith, p.1, length-take-le n o l) in
-    omega (arith, h p.0 small, ap (λ x. get_or ls x 0) (sym (get_or-take n o p.0 0 small) ∙ p.2))
+pub highest_of : (xs : List ℕ) (m : List Bool) (ls : List ℕ) (top : ℕ) → Listed xs m
+    → ((k : ℕ) → k < length xs → get_or ls (get_or xs k 0) 0 ≤ top) → (u : ℕ) → get_or m u false ≡ true → get_or ls u 0 ≤ top
+highest_of xs m ls top l h u on =
+    let p = place_listed xs m l u on in
+    omega (arith, h p.0 p.1, ap (λ x. get_or ls x 0) p.2)
 
 -- and what bounds the first q of them bounds what stands there
-pub first_of : (o : List ℕ) (n q : ℕ) (ls : List ℕ) (top : ℕ) → q < n → n ≤ length o
-    → ((k : ℕ) → k < q → get_or ls (get_or o k 0) 0 < top) → (u : ℕ) → 0 < times u (take q (take n o)) → get_or ls u 0 < top
-first_of o n q ls top w l h u some =
-    let p = place_of u (take q (take n o)) some in
-    let small : p.0 < q = omega (arith, p.1, length-take-le q (take n o) (omega (arith, length-take-le n o l))) in
-    let same : get_or o p.0 0 ≡ u = sym (get_or-take q (take n o) p.0 0 small ∙ get_or-take n o p.0 0 (omega arith)) ∙ p.2 in
-    omega (arith, h p.0 small, ap (λ x. get_or ls x 0) same)
+pub first_of : (xs : List ℕ) (q : ℕ) (ls : List ℕ) (top : ℕ) → q ≤ length xs
+    → ((k : ℕ) → k < q → get_or ls (get_or xs k 0) 0 < top) → (u : ℕ) → 0 < times u (take q xs) → get_or ls u 0 < top
+first_of xs q ls top w h u some =
+    let p = place_of u (take q xs) some in
+    let small : p.0 < q = omega (arith, p.1, length-take-le q xs w) in
+    omega (arith, h p.0 small, ap (λ x. get_or ls x 0) (sym (get_or-take q xs p.0 0 small) ∙ p.2))

@@ -1,15 +1,15 @@
 -- What the calls of the chooser by order of arrival do.
-use Rattle.std.specs.Prelude.{◌≡◌, ℕ, ◌<◌, ◌≤◌, Bool, true, false, List, [], ◌∷◌, ◌++◌, Some, None, Option, slice_index_or}
+use Rattle.std.specs.Prelude.{◌≡◌, ℕ, ◌<◌, ◌≤◌, Bool, true, false, List, [], ◌∷◌, ◌++◌, Some, None, Option}
 use Rattle.chooser.specs.declared.fifo.Fifo.{Fifo}
-use Rattle.chooser.specs.Lists.{run}
+use Rattle.chooser.specs.Arrivals as arrived
 
 -- whether `v` is a member
 abbrev pub holds : Fifo → ℕ → Bool
-holds c v = slice_index_or c.member v false
+holds c v = arrived.holds c.arrived v
 
 -- the members in order of arrival
 abbrev pub arrivals : Fifo → List ℕ
-arrivals c = run c.ring c.head c.count
+arrivals c = c.arrived.order.items
 
 -- nothing is left
 abbrev pub Cleared : Fifo → Type 0

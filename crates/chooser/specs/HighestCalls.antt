@@ -1,15 +1,16 @@
 -- What the calls of the chooser by highest label do.
-use Rattle.std.specs.Prelude.{◌≡◌, ℕ, ◌<◌, ◌≤◌, Bool, true, false, List, [], ◌∷◌, ◌++◌, take, Some, None, Option, ◌≢◌, slice_index, slice_index_or}
+use Rattle.std.specs.Prelude.{◌≡◌, ℕ, ◌<◌, ◌≤◌, Bool, true, false, List, [], ◌∷◌, ◌++◌, Some, None, Option, ◌≢◌, slice_index}
 use Rattle.chooser.specs.declared.highest.HighestLabel.{HighestLabel}
+use Rattle.chooser.specs.Arrivals as arrived
 use Rattle.chooser.specs.Lists.{times}
 
 -- whether `v` is a member
 abbrev pub holds : HighestLabel → ℕ → Bool
-holds c v = slice_index_or c.member v false
+holds c v = arrived.holds c.arrived v
 
 -- the members in order of arrival
 abbrev pub arrivals : HighestLabel → List ℕ
-arrivals c = take c.count c.order
+arrivals c = c.arrived.order.items
 
 -- the label that `v` was put with
 abbrev pub label_of : HighestLabel → ℕ → ℕ

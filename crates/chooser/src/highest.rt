@@ -1,18 +1,12 @@
-//! What the chooser by highest label holds.
-ghost use Rattle.std.specs.Prelude.{◌≡◌, ℕ, length, take};
-ghost use Rattle.chooser.specs.Lists.{flag, ones, times};
+//! The chooser that takes by highest label, then earliest arrival.
+use super::arrived::Arrived;
 
 pub mod calls;
 
 /// Takes the member of highest label, and of these the one that arrived earliest.
-/// The members lie in the first `count` places of `order`, in order of arrival, each once.
+/// The label of a number that is no member stays, as the promise of a take says.
 #[derive(Drop)]
 pub struct HighestLabel {
-    member: [bool; 252],
+    arrived: Arrived,
     labels: [u32; 252],
-    order: [u8; 252],
-    count: usize,
-    ghost wide: { (length member ≡ 252) × (length labels ≡ 252) × (length order ≡ 252) },
-    ghost counted: { count ≡ ones member },
-    ghost listed: { (v : ℕ) → times v (take count order) ≡ flag member v },
 }

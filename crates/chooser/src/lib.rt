@@ -4,6 +4,7 @@
 ghost use Rattle.std.specs.Prelude.{◌≡◌, ℕ, ◌<◌, Bool, true, Option};
 ghost use Rattle.chooser.specs.Sets.{Added, Empty, Taken};
 
+mod arrived;
 mod fifo;
 mod highest;
 
@@ -59,7 +60,7 @@ mod tests {
         assert_eq!(rt; chooser.take(), None);
     }
 
-    // A hundred rounds, so that the ring is used again; 7 is put twice in each.
+    // A hundred rounds, in each of which 7 is put twice.
     #[test]
     fn in_order_of_arrival(rt: HostRuntime) {
         let mut chooser = Fifo::new();

@@ -4,43 +4,31 @@
 ghost use Rattle.first.specs.Theorems.{FirstBegins, FirstCount, FirstFeasible, SecondBegins, FirstBlocked, FirstExactly};
 
 /// Over a sound plant the empty flow of stage one is balanced, so that the stage may begin.
-pub fn first_begins() -> u8
+pub fn first_begins()
     ensures { FirstBegins }
-{
-    0
-}
+{}
 
 /// Stage one has a line for each line of the plant, one back, and one for each uneven junction, and no high is beyond the sum of the plant's.
-pub fn first_count() -> u8
+pub fn first_count()
     ensures { FirstCount }
-{
-    0
-}
+{}
 
 /// A balanced flow of stage one gives numbers within the plant's limits, and where every line from the start is full they are feasible.
-pub fn first_feasible() -> u8
+pub fn first_feasible()
     ensures { FirstFeasible }
-{
-    0
-}
+{}
 
 /// There stage two may begin, either way.
-pub fn second_begins() -> u8
+pub fn second_begins()
     ensures { SecondBegins }
-{
-    0
-}
+{}
 
 /// Where stage one has ended and a line from the start is not full, no flow is feasible if no line ends at the header, and what residuals reach from the start is the smallest hurdle of largest shortfall.
-pub fn first_blocked() -> u8
+pub fn first_blocked()
     ensures { FirstBlocked }
-{
-    0
-}
+{}
 
 /// Where no line ends at the header, stage one ends with every line from the start full exactly if a flow is feasible.
-pub fn first_exactly() -> u8
+pub fn first_exactly()
     ensures { FirstExactly }
-{
-    0
-}
+{}

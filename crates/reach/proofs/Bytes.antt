@@ -1,10 +1,10 @@
 -- A set and its bytes.
-use Rattle.std.proofs.Common.{◌≡◌, ℕ, zero, suc, ◌+◌, ◌-◌, ◌*◌, ◌/◌, ◌%◌, ◌^◌, ◌<◌, ◌≤◌, Bool, true, false, cond, eqb, List, [], ◌∷◌, ◌++◌, length, get_or, take, drop, set, sym, refl, ap, ◌∙◌, ⊎_elim, pow-suc, add-one, arith, pow_mono}
+use Rattle.std.proofs.Common.{◌⊎◌, inl, inr, ◌≡◌, ℕ, zero, suc, ◌+◌, ◌*◌, ◌/◌, ◌%◌, ◌^◌, ◌<◌, ◌≤◌, Bool, true, false, cond, eqb, List, [], ◌∷◌, ◌++◌, length, get_or, take, drop, set, sym, refl, ap, ◌∙◌, ⊎_elim, length-set, pow-suc, add-one, arith, pow_mono}
 use mir.Val.{bool_byte}
 use Rattle.plant.specs.Plants.{Junctions}
 use Rattle.reach.specs.Sets.{bit, bits_from, bytes_from, member, members_below, set_bytes, size}
 use Rattle.reach.proofs.Digits.{bit_none, bit_suc, bit_zero}
-use Rattle.std.proofs.lemmas.List.{append-nil, drop-drop, drop-set-lt, ext_get_or, take_more_set}
+use Rattle.std.proofs.lemmas.List.{append-nil, drop-drop, drop-set-lt, ext_get_or, get_or_past, take_more_set}
 use Rattle.std.proofs.lemmas.Bool.{cases_lt, eq-eqb, ne_eqb}
 
 lowest : (b : Bool) (y : ℕ) → eqb ((cond b 1 0 + 2 * y) % 2) 1 ≡ b
@@ -43,6 +43,11 @@ member_below S v h =
 pub member_past : (S : Junctions) (v : ℕ) → 256 ≤ v → member (set_bytes S) v ≡ false
 unfolding member set_bytes
 member_past S v h = ap (λ (x : ℕ). bit x (v % 8)) (past S (v / 8) 0 32 (omega arith)) ∙ bit_none (v % 8)
+
+-- no bytes, no member
+pub member_out : (xs : List ℕ) (v : ℕ) → length xs ≤ v / 8 → member xs v ≡ false
+unfolding member
+member_out xs v h = ap (λ (x : ℕ). bit x (v % 8)) (get_or_past xs (v / 8) 0 h) ∙ bit_none (v % 8)
 
 -- a set of junctions below 256 is read off its bytes
 pub member_set : (S : Junctions) → ((v : ℕ) → 256 ≤ v → S v ≡ false) → (v : ℕ) → member (set_bytes S) v ≡ S v
@@ -105,15 +110,11 @@ pub same_bytes : (S R : Junctions) → ((v : ℕ) → v < 256 → S v ≡ R v) �
 unfolding set_bytes
 same_bytes S R h = bytes_alike S R 0 32 (λ u l. h u (omega arith))
 
--- one byte more at the end
-bytes_end : (S : Junctions) (v w : ℕ) → bytes_from S v (suc w) ≡ bytes_from S v w ++ (bits_from S (v + 8 * w) 8 ∷ [])
-unfolding bytes_from
-bytes_end S v zero = ap (λ (x : ℕ). bits_from S x 8 ∷ []) (omega arith)
-bytes_end S v (suc w) =
-    ap (λ (xs : List ℕ). bits_from S v 8 ∷ xs) (bytes_end S (v + 8) w ∙ ap (λ (x : ℕ). bytes_from S (v + 8) w ++ (bits_from S x 8 ∷ [])) (omega arith))
-
-pub bytes_more : (S : Junctions) (v w : ℕ) → bytes_from S v (w + 1) ≡ bytes_from S v w ++ (bits_from S (v + 8 * w) 8 ∷ [])
-bytes_more S v w = ap (bytes_from S v) (add-one w) ∙ bytes_end S v w
+-- bytes that are each made of eight junctions
+pub made_bytes : (S : Junctions) (xs : List ℕ) → length xs ≡ 32 → ((i : ℕ) → i < 32 → get_or xs i 0 ≡ bits_from S (8 * i) 8) → xs ≡ set_bytes S
+unfolding set_bytes
+made_bytes S xs l e =
+    ext_get_or 0 xs (set_bytes S) (l ∙ sym (length_set_bytes S)) (λ i h. e i (omega arith) ∙ sym (byte_of S i 0 32 (omega arith) ∙ ap (λ (x : ℕ). bits_from S x 8) (omega arith)))
 
 -- one bit more at the front
 pub bits_more : (S : Junctions) (v w : ℕ) → bits_from S v (w + 1) ≡ cond (S v) 1 0 + 2 * bits_from S (v + 1) w
@@ -160,18 +161,17 @@ abbrev pub Listed : Junctions → ℕ → ℕ → List ℕ → List ℕ → Type
 Listed S v count out before = (take count out ≡ members_below S v) × (count ≡ size S v) × (drop count out ≡ drop count before)
 
 -- one junction on, a member is written after the others, or none is
-pub listed_then : (S : Junctions) (v count count' : ℕ) (out out' before : List ℕ) → S v ≡ true → count < length out → Listed S v count out before
-    → out' ≡ set out count v → count' ≡ count + 1 → Listed S (v + 1) count' out' before
-listed_then S v count count' out out' before e l h oe ce =
+pub listed_step : (S : Junctions) (v count count' : ℕ) (out out' before : List ℕ) → v < length out' → Listed S v count out before
+    → ((S v ≡ true) × (out' ≡ set out count v) × (count' ≡ count + 1)) ⊎ ((S v ≡ false) × (out' ≡ out) × (count' ≡ count))
+    → Listed S (v + 1) count' out' before
+listed_step S v count count' out out' before l h (inl (e, oe, ce)) =
+    let small : count < length out = omega (arith, h.1, size_le S v, ap length oe, length-set out count v) in
     rw (oe, ce) (
-      take_more_set out count v l ∙ ap (λ (xs : List ℕ). xs ++ (v ∷ [])) h.0 ∙ sym (members_more S v ∙ ap (λ (b : Bool). members_below S v ++ cond b (v ∷ []) []) e),
+      take_more_set out count v small ∙ ap (λ (xs : List ℕ). xs ++ (v ∷ [])) h.0 ∙ sym (members_more S v ∙ ap (λ (b : Bool). members_below S v ++ cond b (v ∷ []) []) e),
       omega (arith, h.1, size_more S v, ap {B = ℕ} (λ (b : Bool). cond b 1 0) e),
       drop-set-lt (count + 1) out count v (omega arith) ∙ sym (drop-drop 1 count out) ∙ ap (drop 1) h.2 ∙ drop-drop 1 count before,
     )
-
-pub listed_else : (S : Junctions) (v count count' : ℕ) (out out' before : List ℕ) → S v ≡ false → Listed S v count out before
-    → out' ≡ out → count' ≡ count → Listed S (v + 1) count' out' before
-listed_else S v count count' out out' before e h oe ce =
+listed_step S v count count' out out' before l h (inr (e, oe, ce)) =
     rw (oe, ce) (
       h.0 ∙ sym (members_more S v ∙ ap (λ (b : Bool). members_below S v ++ cond b (v ∷ []) []) e ∙ append-nil (members_below S v)),
       omega (arith, h.1, size_more S v, ap {B = ℕ} (λ (b : Bool). cond b 1 0) e),
@@ -182,15 +182,12 @@ bool_value : (b : Bool) → bool_byte b ≡ cond b 1 0
 bool_value true = refl
 bool_value false = refl
 
--- the bits of the k junctions before v + 8, and of one more before them
-pub horner : (S : Junctions) (v k byte : ℕ) → k < 8 → byte ≡ bits_from S (v + 8 - k) k
-    → byte * 2 + bool_byte (S (v + 7 - k)) ≡ bits_from S (v + 8 - (k + 1)) (k + 1)
-horner S v k byte h e =
-    let here : v + 7 - k ≡ v + 8 - (k + 1) = omega arith in
-    let next : v + 8 - (k + 1) + 1 ≡ v + 8 - k = omega arith in
-    omega (arith, bits_more S (v + 8 - (k + 1)) k, ap (λ (u : ℕ). bits_from S u k) next, bool_value (S (v + 7 - k)), ap {B = ℕ} (λ (u : ℕ). cond (S u) 1 0) here)
+-- the bits of k junctions, and of one more before them
+pub horner : (S : Junctions) (u w k n byte : ℕ) → w ≡ u + 1 → n ≡ k + 1 → byte ≡ bits_from S w k → byte * 2 + bool_byte (S u) ≡ bits_from S u n
+horner S u w k n byte p q e =
+    omega (arith, e, ap (λ (i : ℕ). bits_from S i k) p, ap (bits_from S u) q, bits_more S u k, bool_value (S u))
 
-pub horner_fits : (S : Junctions) (v k byte : ℕ) → k < 8 → byte ≡ bits_from S (v + 8 - k) k → byte * 2 + bool_byte (S (v + 7 - k)) < 256
-horner_fits S v k byte h e =
-    let most : 2 ^ (k + 1) ≤ 2 ^ 8 = pow_mono {i = k + 1} {j = 8} (omega arith) in
-    omega (arith, horner S v k byte h e, bits_below S (v + 8 - (k + 1)) (k + 1), most)
+pub horner_fits : (S : Junctions) (u w k n byte : ℕ) → w ≡ u + 1 → n ≡ k + 1 → n ≤ 8 → byte ≡ bits_from S w k → byte * 2 + bool_byte (S u) < 256
+horner_fits S u w k n byte p q l e =
+    let most : 2 ^ n ≤ 2 ^ 8 = pow_mono {i = n} {j = 8} l in
+    omega (arith, horner S u w k n byte p q e, bits_below S u n, most)

@@ -1,8 +1,8 @@
 -- The dry junctions, from the marks of a search.
-use Rattle.std.proofs.Common.{◌≡◌, ℕ, ◌+◌, ◌-◌, ◌<◌, ◌≤◌, Bool, false, not, ◌&&◌, ◌||◌, ltb, List, ◌++◌, length, get_or, drop, set, replicate, Some, None, Ok, Option, Result, sym, refl, ap, ◌∙◌, subst, ⊎_elim, arith, get_or-set_other, get_or-set_same}
+use Rattle.std.proofs.Common.{◌≡◌, ℕ, ◌-◌, ◌≤◌, Bool, false, not, ◌&&◌, ◌||◌, ltb, List, ◌++◌, length, get_or, drop, replicate, Some, None, Ok, Option, Result, sym, refl, ap, ◌∙◌, subst, ⊎_elim, arith}
 use lib.ListN.{length-replicate}
 use Rattle.std.proofs.lemmas.List.{get_or_past, get_or-replicate}
-use Rattle.std.proofs.lemmas.Bool.{and_from, and_left, and_parts, both_ways, cases_Bool, cases_eq, cases_lt, le-ltb, lt-ltb, ltb-true, not_from_false, not-true}
+use Rattle.std.proofs.lemmas.Bool.{and_from, and_left, and_parts, both_ways, cases_Bool, cases_lt, le-ltb, lt-ltb, ltb-true, not_from_false, not-true}
 use Rattle.plant.specs.declared.decline.Decline.{Decline}
 use Rattle.plant.specs.declared.decline.Decline.TheVariants.{BufferLength}
 use Rattle.plant.specs.declared.line.Line.{Line}
@@ -17,27 +17,6 @@ use Rattle.reach.proofs.Bytes.{size_alike, size_past}
 
 pub no_mark : (m w : ℕ) → get_or (replicate m false) w false ≡ false
 no_mark m w = ⊎_elim (λ h. get_or-replicate m w false false h) (λ h. get_or_past (replicate m false) w false (omega (arith, length-replicate m false))) (cases_lt w m)
-
--- the unmarked junctions below 0
-pub none_yet : (m : ℕ) (marks : List Bool) (k : ℕ) → get_or (replicate m false) k false ≡ (ltb k 0 && not (get_or marks k false))
-none_yet m marks k = no_mark m k ∙ sym (and_left (ltb k 0) (not (get_or marks k false)) (le-ltb k 0 (omega arith)))
-
-below_next : (k i : ℕ) → (k ≡ i → ⊥) → ltb k i ≡ ltb k (i + 1)
-below_next k i ne = ⊎_elim (λ h. lt-ltb k i h ∙ sym (lt-ltb k (i + 1) (omega arith))) (λ h. le-ltb k i h ∙ sym (le-ltb k (i + 1) (omega (arith, apart h)))) (cases_lt k i)
-  where
-    apart : i ≤ k → i < k
-    apart h = ⊎_elim (λ z. z) (λ z. absurd (ne (omega arith))) (cases_lt i k)
-
--- one junction more
-pub unmarked_more : (rest marks : List Bool) (i k : ℕ) → i < length rest
-    → get_or rest k false ≡ (ltb k i && not (get_or marks k false))
-    → get_or (set rest i (not (get_or marks i false))) k false ≡ (ltb k (i + 1) && not (get_or marks k false))
-unmarked_more rest marks i k l e =
-    ⊎_elim
-    (λ (q : k ≡ i). ap (λ (j : ℕ). get_or (set rest i (not (get_or marks i false))) j false) q ∙ get_or-set_same rest i (not (get_or marks i false)) false l
-    ∙ ap (λ (j : ℕ). not (get_or marks j false)) (sym q) ∙ ap (λ (b : Bool). b && not (get_or marks k false)) (sym (lt-ltb k (i + 1) (omega arith))))
-    (λ nq. get_or-set_other rest i k (not (get_or marks i false)) false nq ∙ e ∙ ap (λ (b : Bool). b && not (get_or marks k false)) (below_next k i nq))
-    (cases_eq k i)
 
 -- the unmarked junctions are the dry ones
 pub dry_set : (n : ℕ) (ls : List Line) (marks : List Bool) (D : Junctions) → Marks (drawn ls) n 0 marks

@@ -1,10 +1,9 @@
 -- A table of marks, and tests that hold of some element.
-use Rattle.std.proofs.Common.{◌≡◌, ℕ, zero, suc, ◌+◌, ◌<◌, ◌≤◌, Bool, true, false, ◌&&◌, ◌||◌, eqb, List, [], ◌∷◌, map, length, get_or, drop, set, replicate, sym, refl, ap, ◌∙◌, ⊎_elim, arith, get_or-set_other, get_or-set_same}
+use Rattle.std.proofs.Common.{◌≡◌, ℕ, zero, suc, ◌<◌, ◌≤◌, Bool, true, false, ◌||◌, List, [], ◌∷◌, map, length, get_or, drop, replicate, sym, refl, ap, ◌∙◌, ⊎_elim, arith}
 use lib.ListN.{length-replicate}
 use Rattle.reach.specs.Drawn.{any, tabled}
-use Rattle.reach.proofs.Digits.{or_left_out}
-use Rattle.std.proofs.lemmas.List.{at_drop_all, at_drop_more, get_or_past, get_or-replicate}
-use Rattle.std.proofs.lemmas.Bool.{and_from, and_left, and_right, cases_eq, cases_lt, eq-eqb, ne_eqb, or_cases, or_left, or_right}
+use Rattle.std.proofs.lemmas.List.{at_drop_all, get_or_past, get_or-replicate}
+use Rattle.std.proofs.lemmas.Bool.{cases_lt, or_cases, or_left, or_right}
 
 -- a table of no marks
 pub tabled_none : (n m v w : ℕ) → tabled (replicate n (replicate m false)) v w ≡ false
@@ -16,40 +15,11 @@ tabled_none n m v w =
     row : (m w : ℕ) → get_or (replicate m false) w false ≡ false
     row m w = ⊎_elim (λ h. get_or-replicate m w false false h) (λ h. get_or_past (replicate m false) w false (omega (arith, length-replicate m false))) (cases_lt w m)
 
--- one mark more
-pub tabled_more : (rows : List (List Bool)) (row : List Bool) (v w x y : ℕ) → v < length rows → row ≡ get_or rows v [] → w < length row
-    → tabled (set rows v (set row w true)) x y ≡ ((eqb v x && eqb w y) || tabled rows x y)
-tabled_more rows row v w x y l e m =
-    ⊎_elim
-    (λ (p : x ≡ v).
-    ap (λ (i : ℕ). tabled (set rows v (set row w true)) i y) p ∙ ap (λ (r : List Bool). get_or r y false) (get_or-set_same rows v (set row w true) [] l)
-    ∙ ⊎_elim
-    (λ (q : y ≡ w). ap (λ (j : ℕ). get_or (set row w true) j false) q ∙ get_or-set_same row w true false m
-    ∙ sym (or_left (eqb v x && eqb w y) (tabled rows x y) (and_from (eqb v x) (eqb w y) (eq-eqb v x (sym p)) (eq-eqb w y (sym q)))))
-    (λ nq. get_or-set_other row w y true false nq ∙ ap (λ (r : List Bool). get_or r y false) e ∙ ap (λ (i : ℕ). tabled rows i y) (sym p)
-    ∙ sym (or_left_out (eqb v x && eqb w y) (tabled rows x y) (and_right (eqb v x) (eqb w y) (ne_eqb w y (λ z. nq (sym z))))))
-    (cases_eq y w))
-    (λ np. ap (λ (r : List Bool). get_or r y false) (get_or-set_other rows v x (set row w true) [] np)
-    ∙ sym (or_left_out (eqb v x && eqb w y) (tabled rows x y) (and_left (eqb v x) (eqb w y) (ne_eqb v x (λ z. np (sym z))))))
-    (cases_eq x v)
-
-pub or_turn : (a b c : Bool) → ((a || b) || c) ≡ (b || (a || c))
-or_turn true true c = refl
-or_turn true false c = refl
-or_turn false true c = refl
-or_turn false false c = refl
-
 pub or_none : (a : Bool) → (a || false) ≡ a
 or_none true = refl
 or_none false = refl
 
--- a loop that has made `b` of a test of each element so far stands before place i
-pub any_more : {X : Type 0} (f : X → Bool) (xs : List X) (i : ℕ) (d : X) (b b' t : Bool) → i < length xs
-    → (b || any f (drop i xs)) ≡ t → b' ≡ (f (get_or xs i d) || b) → (b' || any f (drop (i + 1) xs)) ≡ t
-any_more f xs i d b b' t l e h =
-    ap (λ (c : Bool). c || any f (drop (i + 1) xs)) h ∙ or_turn (f (get_or xs i d)) b (any f (drop (i + 1) xs))
-    ∙ ap (λ (c : Bool). b || c) (sym (at_drop_more (any f) xs i d l)) ∙ e
-
+-- a loop that has made `b` of a test of each element, and is past the last
 pub any_all : {X : Type 0} (f : X → Bool) (xs : List X) (i : ℕ) (b t : Bool) → length xs ≤ i → (b || any f (drop i xs)) ≡ t → b ≡ t
 any_all f xs i b t l e = sym (or_none b) ∙ ap (λ (c : Bool). b || c) (sym (at_drop_all (any f) xs i l)) ∙ e
 

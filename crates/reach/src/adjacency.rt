@@ -1,23 +1,15 @@
 //! A graph as a table, prepared once.
-ghost use Rattle.std.specs.Prelude.{◌≡◌, ℕ, Bool, true, false, ◌&&◌, ◌||◌, List, length, ◌==◌, slice_set};
+ghost use Rattle.std.specs.Prelude.{◌≡◌, ℕ, Bool, true, false, ◌&&◌, ◌||◌, List, ◌==◌};
 ghost use Rattle.plant.specs.Held.{arc, arcs};
 ghost use Rattle.reach.specs.Drawn.{drawn, opens, residual_edge, tabled};
 
 use super::graph::Graph;
-use plant::{HeldLine, Line};
+use plant::{HeldLine, Line, Marks};
 
 /// For each junction a row of marks, one for each junction that it leads straight to.
 #[derive(Drop)]
 pub struct Adjacency {
-    rows: [[bool; 256]; 256],
-}
-
-// Marks `w` in one row.
-fn mark(row: &mut [bool; 256], w: u8)
-    ensures wide { length row.old ≡ 256 }
-    ensures marked { row.new ≡ slice_set row.old w true }
-{
-    row[w as usize] = true;
+    rows: [Marks; 256],
 }
 
 impl Adjacency {
@@ -34,7 +26,8 @@ impl Adjacency {
     pub fn join(&mut self, v: u8, w: u8)
         ensures { (x y : ℕ) → tabled self.new.rows x y ≡ ((v == x && w == y) || tabled self.old.rows x y) }
     {
-        mark(&mut self.rows[v as usize], w);
+        let row = &mut self.rows[v as usize];
+        row[w as usize] = true;
     }
 
     /// The lines of a list as drawn.
@@ -48,15 +41,6 @@ impl Adjacency {
         graph
     }
 
-    // Joins `v` to `w` where there is a residual.
-    fn join_if(&mut self, holds: bool, v: u8, w: u8)
-        ensures { (x y : ℕ) → tabled self.new.rows x y ≡ ((holds && (v == x && w == y)) || tabled self.old.rows x y) }
-    {
-        if holds {
-            self.join(v, w);
-        }
-    }
-
     // The residuals of one line, in either direction.
     fn join_residuals(&mut self, held: &HeldLine)
         ensures { (v w : ℕ) → tabled self.new.rows v w ≡ (opens (arc held.now) v w || tabled self.old.rows v w) }
@@ -67,8 +51,12 @@ impl Adjacency {
             low: _,
             high: _,
         } = held.line;
-        self.join_if(held.residual(from) > 0, from, to);
-        self.join_if(held.residual(to) > 0, to, from);
+        if held.residual(from) > 0 {
+            self.join(from, to);
+        }
+        if held.residual(to) > 0 {
+            self.join(to, from);
+        }
     }
 
     /// The residuals of held lines.
@@ -87,7 +75,6 @@ impl Graph for Adjacency {
     ghost edge = { λ s v w. tabled s.rows v w };
 
     fn leads(&self, v: u8, w: u8) -> bool {
-        let row = &self.rows[v as usize];
-        row[w as usize]
+        self.rows[v as usize][w as usize]
     }
 }

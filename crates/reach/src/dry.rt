@@ -1,23 +1,12 @@
 //! The dry junctions of a list: those but the header that no chain of its lines reaches from it.
-ghost use Rattle.std.specs.Prelude.{◌≡◌, ℕ, Bool, false, not, ◌&&◌, length, nat_lt};
-ghost use Rattle.plant.specs.Held.{marked};
+ghost use Rattle.std.specs.Prelude.{length};
 ghost use Rattle.reach.specs.Drying.{Dried, test_dry};
 
 use super::adjacency::Adjacency;
+use super::marks::select;
 use super::set::JunctionSet;
 use super::walk::mark_reached;
 use plant::{Decline, Line, test_list};
-
-// Just the junctions below `n` that are not marked.
-fn unmarked(n: u8, marks: &[bool; 256]) -> [bool; 256]
-    ensures { (v : ℕ) → marked result v ≡ (nat_lt v n && not (marked marks.now v)) }
-{
-    let mut rest = [false; 256];
-    for v in 0..n {
-        rest[v as usize] = !marks[v as usize];
-    }
-    rest
-}
 
 /// Puts the dry junctions of a list into the first 32 bytes of `out` and answers their number; `places` is memory for
 /// the walk. Declines a list that fails a test, then fewer than `n` places or 32 bytes, and then changes nothing.
@@ -35,7 +24,7 @@ pub fn dry_junctions(
     }
     let mut marks = [false; 256];
     mark_reached(&Adjacency::drawn(lines), n, 0, &mut marks, places)?;
-    let dry = JunctionSet::from_marks(&unmarked(n, &marks));
+    let dry = JunctionSet::from(&select(n, &marks, |marked| !marked));
     out[0..32].copy_from_slice(&dry.bytes);
     Ok(dry.len())
 }

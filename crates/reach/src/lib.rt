@@ -4,6 +4,7 @@
 mod adjacency;
 mod dry;
 mod graph;
+mod marks;
 mod numbers;
 mod set;
 mod walk;
@@ -11,6 +12,7 @@ mod walk;
 pub use adjacency::Adjacency;
 pub use dry::dry_junctions;
 pub use graph::{Graph, Reversed};
+pub use marks::select;
 pub use numbers::shorter;
 pub use set::JunctionSet;
 pub use walk::mark_reached;
@@ -35,6 +37,7 @@ mod tests {
         assert_eq!(rt; out[1], 9);
         assert_eq!(rt; out[3], 7);
         assert_eq!(rt; set.len(), 3);
+        assert_eq!(rt; JunctionSet::from(&set.marks()), set);
     }
 
     // Two of four junctions are dry, with three and four places, 31 and 32 bytes.

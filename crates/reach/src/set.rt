@@ -3,20 +3,23 @@ ghost use Rattle.std.specs.Prelude.{◌≡◌, ℕ, ◌+◌, ◌≤◌, true, fa
 ghost use Rattle.plant.specs.Held.{marked};
 ghost use Rattle.reach.specs.Sets.{bits_from, member, members_below, set_bytes, size};
 
+use plant::Marks;
+use std::array;
+
 /// A set of junction numbers below 256.
-#[derive(Clone, Copy)]
+#[derive(Clone, Copy, PartialEq, Eq, Debug)]
 pub struct JunctionSet {
     pub bytes: [u8; 32],
 }
 
 // The bits of the eight junctions from `v` on.
-fn byte_of(marks: &[bool; 256], v: usize) -> u8
+fn byte_of(marks: &Marks, v: usize) -> u8
     requires { v + 8 ≤ 256 }
     ensures { result ≡ bits_from (marked marks.now) v 8 }
 {
-    let mut byte: u8 = 0;
-    for k in 0..8usize {
-        byte = byte * 2 + marks[v + 7 - k] as u8;
+    let mut byte = 0;
+    for w in (v..v + 8).rev() {
+        byte = byte * 2 + marks[w] as u8;
     }
     byte
 }
@@ -34,8 +37,7 @@ impl JunctionSet {
     pub fn insert(&mut self, v: u8)
         ensures { (w : ℕ) → member self.new.bytes w ≡ (w == v || member self.old.bytes w) }
     {
-        let at = (v / 8) as usize;
-        self.bytes[at] = self.bytes[at] | (1 << (v % 8));
+        self.bytes[(v / 8) as usize] |= 1 << (v % 8);
     }
 
     /// Whether a junction is a member.
@@ -49,7 +51,8 @@ impl JunctionSet {
     pub fn len(&self) -> u16
         ensures { result ≡ size (member self.now.bytes) 256 }
     {
-        let mut size: u16 = 0;
+        // a chain over `iter()` does not tell its proof that each byte is below 256
+        let mut size = 0;
         for byte in self.bytes {
             size += byte.count_ones() as u16;
         }
@@ -62,25 +65,34 @@ impl JunctionSet {
         ensures count { result ≡ size (member self.now.bytes) 256 }
         ensures rest { drop result out.new ≡ drop result out.old }
     {
-        let mut count: usize = 0;
-        for v in 0..256usize {
-            if self.contains(v as u8) {
-                out[count] = v as u8;
+        let mut count = 0;
+        for v in 0..=u8::MAX {
+            if self.contains(v) {
+                out[count] = v;
                 count += 1;
             }
         }
         count
     }
 
-    /// The junctions that are marked.
-    pub fn from_marks(marks: &[bool; 256]) -> JunctionSet
-        ensures members { (v : ℕ) → member result.bytes v ≡ marked marks.now v }
-        ensures bytes { result.bytes ≡ set_bytes (marked marks.now) }
+    /// A mark for each junction, set for the members.
+    pub fn marks(&self) -> Marks
+        ensures { (v : ℕ) → marked result v ≡ member self.now.bytes v }
     {
-        let mut bytes = [0u8; 32];
-        for i in 0..32usize {
-            bytes[i] = byte_of(marks, 8 * i);
+        array::from_fn(|v| self.contains(v as u8))
+    }
+}
+
+/// The junctions that are marked.
+impl From<&Marks> for JunctionSet {
+    ghost from_gives = { λ marks set. set.bytes ≡ set_bytes (marked marks.now) };
+
+    fn from(marks: &Marks) -> JunctionSet
+        ensures gives { result.bytes ≡ set_bytes (marked marks.now) }
+        ensures members { (v : ℕ) → member result.bytes v ≡ marked marks.now v }
+    {
+        JunctionSet {
+            bytes: array::from_fn(|i| byte_of(marks, 8 * i)),
         }
-        JunctionSet { bytes }
     }
 }

@@ -1,26 +1,17 @@
 //! The walk over a graph, written once for every graph.
-ghost use Rattle.std.specs.Prelude.{◌≡◌, ℕ, ◌<◌, ◌≤◌, Bool, true, false, length, slice_index_or};
+ghost use Rattle.std.specs.Prelude.{◌≡◌, ◌<◌, ◌≤◌, length};
 ghost use Rattle.reach.specs.Marking.{Marks, Searched};
 
 use super::graph::Graph;
 use plant::Decline;
 use ring::Queue;
 
-// Takes every mark away.
-fn clear(marks: &mut [bool])
-    ensures { (k : ℕ) → slice_index_or marks.new k false ≡ false }
-{
-    for m in marks.iter_mut() {
-        *m = false;
-    }
-}
-
 // Marks what the graph reaches from `from`, where there is room.
 fn mark_from<G: Graph>(graph: &G, n: u8, from: u8, marks: &mut [bool], places: &mut [u8])
     requires { (from < n) × ((n ≤ length marks.old) × (n ≤ length places.old)) }
     ensures { Marks (G.edge graph.now) n from marks.new }
 {
-    clear(marks);
+    marks.fill(false);
     marks[from as usize] = true;
     let mut queue = Queue::new(places);
     let _ = queue.put(from);
@@ -52,7 +43,7 @@ pub fn mark_reached<G: Graph>(
     if from < n {
         mark_from(graph, n, from, marks, places);
     } else {
-        clear(marks);
+        marks.fill(false);
     }
     Ok(())
 }

@@ -11,92 +11,66 @@ pub struct Row {
 }
 
 /// Over a balanced flow the beginning gives a state that holds.
-pub fn beginning_holds() -> u8
+pub fn beginning_holds()
     ensures { BeginningHolds }
-{
-    0
-}
+{}
 
 /// A discharge of an active junction keeps what holds.
-pub fn discharge_keeps() -> u8
+pub fn discharge_keeps()
     ensures { DischargeKeeps }
-{
-    0
-}
+{}
 
 /// From an active junction some residual leads on.
-pub fn active_goes_on() -> u8
+pub fn active_goes_on()
     ensures { ActiveGoesOn }
-{
-    0
-}
+{}
 
 /// A relabel comes only where no push is possible, and gives one more than the smallest label in reach.
-pub fn relabel_exact() -> u8
+pub fn relabel_exact()
     ensures { RelabelExact }
-{
-    0
-}
+{}
 
 /// Once the excess is zero the rest of a scan changes nothing and puts nothing.
-pub fn scan_stops() -> u8
+pub fn scan_stops()
     ensures { ScanStops }
-{
-    0
-}
+{}
 
 /// No excess is beyond the sum of the highs.
-pub fn excess_bounded() -> u8
+pub fn excess_bounded()
     ensures { ExcessBounded }
-{
-    0
-}
+{}
 
 /// Relabels and discharges are few.
-pub fn runs_end() -> u8
+pub fn runs_end()
     ensures { RunsEnd }
-{
-    0
-}
+{}
 
 /// A chooser goes on holding just the active junctions.
-pub fn set_ties() -> u8
+pub fn set_ties()
     ensures { SetTies }
-{
-    0
-}
+{}
 
 /// A set with the start and without the goal is left by no residual.
-pub fn start_parted() -> u8
+pub fn start_parted()
     ensures { StartParted }
-{
-    0
-}
+{}
 
 /// No residual path leads from the start to the goal.
-pub fn goal_out_of_reach() -> u8
+pub fn goal_out_of_reach()
     ensures { GoalOutOfReach }
-{
-    0
-}
+{}
 
 /// When nothing is active the flow is balanced, and none sends more from the start to the goal.
-pub fn end_is_best() -> u8
+pub fn end_is_best()
     ensures { EndIsBest }
-{
-    0
-}
+{}
 
 /// A balanced flow brings the goal what it takes from the start.
-pub fn goal_gets_all() -> u8
+pub fn goal_gets_all()
     ensures { GoalGetsAll }
-{
-    0
-}
+{}
 
 /// Between header and tank a stage that has ended gives a best flow.
-pub fn second_stage_best() -> u8
+pub fn second_stage_best()
     ensures { SecondStageBest }
-{
-    0
-}
+{}

@@ -1,5 +1,5 @@
 -- A row that passes the test is right.
-use Rattle.std.proofs.Common.{◌≡◌, ℕ, zero, suc, ◌<◌, Bool, true, false, not, ◌&&◌, T, eqb, ltb, leb, List, [], ◌∷◌, map, length, get_or, ℤ, ◌≤ℤ◌, Some, None, Option, sym, refl, ap, ◌∙◌, subst, inl, inr, arith}
+use Rattle.std.proofs.Common.{slice_get, ◌≡◌, ℕ, zero, suc, Bool, true, false, not, ◌&&◌, T, eqb, ltb, leb, List, [], ◌∷◌, map, length, ℤ, ◌≤ℤ◌, Some, None, Option, sym, refl, ap, ◌∙◌, subst, inl, inr, arith}
 use lib.Signed.{le_z, le_z_yes, ≤ℤ_refl}
 use Rattle.std.proofs.lemmas.Int.{ints}
 use Rattle.std.proofs.lemmas.Bool.{and_from, and_parts, both_ways, eq-eqb, eqb-true, leb-true, lt-ltb, ltb-true, not_from_false, not-true}
@@ -17,6 +17,7 @@ use Rattle.cuts.proofs.Hurdles.{feasible_or, no_flow, worst_same}
 use Rattle.cuts.proofs.Reach.{no_better_both}
 use Rattle.worked.proofs.Sets.{Below, each_set_all, each_tells, implied, set_below, some_set_found, subset_all}
 use Rattle.worked.specs.Table.{table}
+use Rattle.std.specs.Option.{option_flatten}
 use Rattle.worked.specs.Checks.{all_below, checks, ChecksTell, checks_far, checks_near, checks_sets, checks_total, checks_trial, checks_worst, cuts_at, each, each_set, implies, is_cut, is_hurdle, no_better, passes, same, some_set, subset}
 use Rattle.worked.specs.Rows.{Answer, flows, HasTotal, impossible, Right, RightSets, RightTrial, Row, set_of, total_of, TotalAt, Trial, tried}
 
@@ -209,7 +210,7 @@ pub table_right : AllByRecursion Right table
 table_right = each_tells checks Right checks_tell table refl
 
 -- the total of a row that is right
-pub total_right : (rows : List Row) → AllByRecursion Right rows → (k : ℕ) → k < length rows → TotalAt rows k (get_or (map (λ (r : Row). total_of r.answer) rows) k None)
-total_right [] rights k i = absurd (omega arith)
-total_right (row ∷ rows) rights zero i = rights.0.1
-total_right (row ∷ rows) rights (suc k) i = total_right rows rights.1 k (omega arith)
+pub total_right : (rows : List Row) → AllByRecursion Right rows → (k : ℕ) → TotalAt rows k (option_flatten (slice_get (map (λ (r : Row). total_of r.answer) rows) k))
+total_right [] rights k = refl
+total_right (row ∷ rows) rights zero = rights.0.1
+total_right (row ∷ rows) rights (suc k) = total_right rows rights.1 k

@@ -1,35 +1,23 @@
-//! The chooser that takes by highest label, then earliest arrival.
-ghost use Rattle.std.specs.Prelude.{◌≡◌, ℕ, ◌+◌, ◌<◌, ◌≤◌, [], length, slice_index};
+//! The calls of the chooser that takes by highest label.
+ghost use Rattle.std.specs.Prelude.{◌≡◌, ℕ, ◌<◌, ◌≤◌, [], length, slice_index};
 ghost use Rattle.chooser.specs.HighestCalls.{arrivals, Cleared, holds, Put, TakenHighest};
 ghost use Rattle.chooser.specs.Sets.{Empty};
 ghost use Rattle.chooser.specs.Flags.{flag_below_252};
 
 use super::HighestLabel;
 use crate::Chooser;
+use crate::arrived::Arrived;
 
-// Moves what stands after `at`, up to `end`, one place down.
-fn close(order: &mut [u8], at: usize, end: usize)
-    requires { (at < end) × (end ≤ length order.old) }
-    ensures before { (k : ℕ) → k < at → slice_index order.new k ≡ slice_index order.old k }
-    ensures after { (k : ℕ) → at ≤ k → k + 1 < end → slice_index order.new k ≡ slice_index order.old (k + 1) }
-    ensures rest { (k : ℕ) → end ≤ k + 1 → slice_index order.new k ≡ slice_index order.old k }
-{
-    for j in at..end - 1 {
-        order[j] = order[j + 1];
-    }
-}
-
-// The first place of those below `count` whose junction has the highest label.
-fn best(order: &[u8], labels: &[u32], count: usize) -> usize
-    requires some { (0 < count) × (count ≤ length order.now) }
-    requires known { (k : ℕ) → k < count → slice_index order.now k < length labels.now }
-    ensures within { result < count }
-    ensures highest { (k : ℕ) → k < count → slice_index labels.now (slice_index order.now k) ≤ slice_index labels.now (slice_index order.now result) }
+// The first place of those whose junction has the highest label; 0 where there is no place.
+fn best(order: &[u8], labels: &[u32]) -> usize
+    requires { (k : ℕ) → k < length order.now → slice_index order.now k < length labels.now }
+    ensures within { 0 < length order.now → result < length order.now }
+    ensures highest { (k : ℕ) → k < length order.now → slice_index labels.now (slice_index order.now k) ≤ slice_index labels.now (slice_index order.now result) }
     ensures earliest { (k : ℕ) → k < result → slice_index labels.now (slice_index order.now k) < slice_index labels.now (slice_index order.now result) }
 {
     let mut at = 0;
-    for i in 1..count {
-        if labels[order[i] as usize] > labels[order[at] as usize] {
+    for (i, v) in order.iter().enumerate() {
+        if labels[*v as usize] > labels[order[at] as usize] {
             at = i;
         }
     }
@@ -43,10 +31,8 @@ impl HighestLabel {
         ensures none { arrivals result ≡ [] }
     {
         HighestLabel {
-            member: [false; 252],
+            arrived: Arrived::new(),
             labels: [0; 252],
-            order: [0; 252],
-            count: 0,
         }
     }
 }
@@ -60,7 +46,7 @@ impl Chooser for HighestLabel {
 
     ghost takes = { TakenHighest };
 
-    ghost below = { λ c v on. flag_below_252 c.member v c.wide.0 on };
+    ghost below = { λ c v on. flag_below_252 c.arrived.member v c.arrived.wide on };
 
     fn clear(&mut self) {
         *self = HighestLabel::new();
@@ -68,25 +54,14 @@ impl Chooser for HighestLabel {
 
     // A member that is put again keeps its label and its place.
     fn put(&mut self, v: u8, label: u32) {
-        let at = v as usize;
-        if at < 252 && !self.member[at] {
-            self.order[self.count] = v;
-            self.labels[at] = label;
-            self.member[at] = true;
-            self.count += 1;
+        if self.arrived.put(v) {
+            self.labels[v as usize] = label;
         }
     }
 
     fn take(&mut self) -> Option<u8> {
-        if self.count == 0 {
-            return None;
-        }
-        let count = self.count;
-        let at = best(&self.order, &self.labels, count);
-        let v = self.order[at];
-        close(&mut self.order, at, count);
-        self.member[v as usize] = false;
-        self.count = count - 1;
-        Some(v)
+        let arrived = &self.arrived;
+        let at = best(arrived.order.as_slice(), &self.labels);
+        self.arrived.take(at)
     }
 }

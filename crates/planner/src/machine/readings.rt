@@ -176,7 +176,7 @@ impl<C: Chooser> Planner<C> {
     {
         expect_flow(self.state)?;
         let marks = self.cut_of(side);
-        let set = JunctionSet::from_marks(&marks);
+        let set = JunctionSet::from(&marks);
         put_set(&set, out)?;
         Ok((
             set.len(),
@@ -209,7 +209,7 @@ impl<C: Chooser> Planner<C> {
     {
         expect_hurdle(self.state)?;
         let marks = self.hurdle_of();
-        let set = JunctionSet::from_marks(&marks);
+        let set = JunctionSet::from(&marks);
         put_set(&set, out)?;
         Ok((set.len(), shortfall(self.plant.lines(), &marks)))
     }

@@ -1,5 +1,6 @@
-use Rattle.std.proofs.Common.{[], ◌∷◌, ◌++◌, length, sym, refl, ap, ◌∙◌, arith}
-use Rattle.reach.proofs.Going.{begun, ended, seen, taken}
+use Rattle.std.proofs.Common.{Bool, false, List, get_or, [], ◌∷◌, ◌++◌, length, sym, refl, ap, ◌∙◌, arith}
+use Rattle.reach.proofs.Going.{begun, ended, taken}
+use Rattle.reach.proofs.Drying.{no_mark}
 use Rattle.reach.proofs.Joined.{join_marked, join_passed}
 use Rattle.std.proofs.lemmas.Bool.{both_ways}
 use Rattle.reach.proofs.walk.mark_from.Goals as goal
@@ -9,7 +10,7 @@ pub loop-v-init : goal.loop-v-init
 loop-v-init g c =
     let none = ap length c.new-queue.ensures.empty in
     let kept = c.put.ensures.kept (omega arith) in (
-      begun _ _ _ _ _ (omega arith) (omega arith) c.clear.ensures
+      begun _ _ _ _ _ (omega arith) (omega arith) (λ k. ap (λ (xs : List Bool). get_or xs k false) (c.fill.ensures.after (λ y e. e)) ∙ no_mark (length c.args.marks.now) k)
           (kept.1 ∙ ap (λ q. q ++ (c.args.from ∷ [])) c.new-queue.ensures.empty),
       omega arith,
     )
@@ -17,14 +18,6 @@ loop-v-init g c =
 pub loop-w-init : goal.loop-w-init
 loop-w-init g c =
     (taken _ _ _ _ _ _ _ _ c.loop-v.invariant.0 c.in-Some.ensures.took, omega (arith, c.in-Some.ensures.room), refl)
-
-pub loop-v-smaller : goal.loop-v-smaller
-loop-v-smaller g c =
-    omega (arith, c.loop-w.invariant.2, ap length c.in-Some.ensures.took)
-
-pub loop-v-preserved : goal.loop-v-preserved
-loop-v-preserved g c =
-    (seen _ _ _ _ _ _ _ c.loop-w.invariant.0 c.loop-w-test.false (omega arith), c.loop-w.invariant.1)
 
 pub loop-w-preserved : goal.loop-w-preserved
 loop-w-preserved g c =

@@ -1,6 +1,7 @@
-use Rattle.std.proofs.Common.{◌≡◌, ℕ, ◌≤◌, Bool, false, List, get_or, arith, rules}
+use Rattle.std.proofs.Common.{◌≡◌, ℕ, ◌≤◌, Bool, false, List, get_or, ap, ◌∙◌, length, arith, rules}
 use Rattle.reach.specs.Marking.{Marks, Reaches, here, on}
 use Rattle.std.proofs.lemmas.Bool.{both_ways}
+use Rattle.reach.proofs.Drying.{no_mark}
 use Rattle.reach.proofs.walk.mark_reached.Goals as goal
 
 -- a junction that is not below n reaches nothing
@@ -14,5 +15,5 @@ unmarked edge n from marks h none w l = ((λ m. absurd (both_ways (get_or marks 
 
 pub returns-else-from-n : goal.returns-else-from-n
 returns-else-from-n g c =
-    let m : Marks (g.G.Graph.edge c.args.graph.now) c.args.n c.args.from c.clear.new.marks = unmarked _ _ _ _ c.if-from-n.false c.clear.ensures in
+    let m : Marks (g.G.Graph.edge c.args.graph.now) c.args.n c.args.from c.fill.new.self = unmarked _ _ _ _ c.if-from-n.false (λ k. ap (λ (xs : List Bool). get_or xs k false) (c.fill.ensures.after (λ y e. e)) ∙ no_mark (length c.args.marks.now) k) in
     search rules

@@ -10,13 +10,13 @@ use Rattle.planner.proofs.machine.Planner.hurdle.Goals as goal
 pub returns : goal.returns
 returns g c =
     let p = view c.args.self.now in
-    let bytes = c.from_marks-set.result.bytes in
+    let bytes = c.from-set.result.bytes in
     let few : p.plant.junctions ≤ 250 = c.args.self.now.plant.sized.1 in
     let read = hurdle_answered p c.args.out.now c.put_set.new.out bytes (marked c.hurdle_of-marks.result) c.len.result
     c.shortfall.result c.lines.result.now
     (passed (test_hurdle p.state) c.in_ok-expect_hurdle.ensures)
     (put bytes c.args.out.now c.put_set.new.out c.in_ok-put_set.ensures) (omega arith)
-    c.hurdle_of-marks.ensures.residuals c.from_marks-set.ensures.members c.from_marks-set.ensures.bytes c.len.ensures
+    c.hurdle_of-marks.ensures.residuals c.from-set.ensures.members c.from-set.ensures.gives c.len.ensures
     c.shortfall.ensures c.lines.ensures.value in
     record { read = read; seen = hurdle_seen g.C.Chooser.has c.args.self.now _ read; facts = facts g.C.Chooser.has c.args.self.now }
 

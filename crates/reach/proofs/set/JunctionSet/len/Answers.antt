@@ -8,13 +8,6 @@ pub loop-byte-init : goal.loop-byte-init
 unfolding size
 loop-byte-init c = (refl, omega arith)
 
-pub overflow_add-size : goal.overflow_add-size
-overflow_add-size c =
-    let b = get_or c.args.self.now.bytes c.loop-byte.byte-index 0 in
-    let h : b < 256 = search rules in
-    let o = ones-le 8 b h in
-    omega (arith, o, c.loop-byte.invariant.1)
-
 pub loop-byte-preserved : goal.loop-byte-preserved
 loop-byte-preserved c =
     let b = get_or c.args.self.now.bytes c.loop-byte.byte-index 0 in

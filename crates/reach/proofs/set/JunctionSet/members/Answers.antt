@@ -1,6 +1,6 @@
-use Rattle.std.proofs.Common.{◌≡◌, sym, refl, ap, ◌∙◌, arith}
+use Rattle.std.proofs.Common.{◌≡◌, ◌+◌, sym, refl, ap, ◌∙◌, inl, inr, arith}
 use Rattle.reach.specs.Sets.{member, members_below, size}
-use Rattle.reach.proofs.Bytes.{listed_else, listed_then, size_le}
+use Rattle.reach.proofs.Bytes.{listed_step, size_le}
 use Rattle.reach.proofs.set.JunctionSet.members.Goals as goal
 use Rattle.reach.proofs.set.JunctionSet.members.Goals.{then-contains, else-contains}
 
@@ -16,17 +16,17 @@ overflow_add-count c = omega (arith, size_le (member c.args.self.now.bytes) c.lo
 
 pub loop-v-preserved : goal.loop-v-preserved
 loop-v-preserved c =
-    let S = member c.args.self.now.bytes in
-    let few = size_le S c.loop-v.v in
-    elim c.if-contains.branch [
-      | then-contains w ↦ listed_then S c.loop-v.v c.loop-v.count c.if-contains.count c.loop-v.out c.if-contains.out c.args.out.now
-          (sym c.contains.ensures ∙ w.if-contains.true) (omega (arith, few, c.loop-v.invariant.1)) c.loop-v.invariant w.out-is w.count-is
-      | else-contains w ↦ listed_else S c.loop-v.v c.loop-v.count c.if-contains.count c.loop-v.out c.if-contains.out c.args.out.now
-          (sym c.contains.ensures ∙ w.if-contains.false) c.loop-v.invariant w.out-is w.count-is
-    ]
+    listed_step (member c.args.self.now.bytes) c.loop-v.v _ _ _ _ _ (omega arith) c.loop-v.invariant (elim c.if-contains.branch [
+      | then-contains w ↦ inl (sym c.contains.ensures ∙ w.if-contains.true, w.out-is, w.count-is)
+      | else-contains w ↦ inr (sym c.contains.ensures ∙ w.if-contains.false, w.out-is, w.count-is)
+    ])
 
-pub returns : goal.returns
-returns c =
+pub returns-after-contains : goal.returns-after-contains
+returns-after-contains c =
     let S = member c.args.self.now.bytes in
-    let e : c.loop-v.v ≡ 256 = omega arith in
-    record { front = c.loop-v.invariant.0 ∙ ap (members_below S) e; count = c.loop-v.invariant.1 ∙ ap (size S) e; rest = c.loop-v.invariant.2 }
+    let e : c.loop-v.v + 1 ≡ 256 = omega arith in
+    let all = listed_step S c.loop-v.v _ _ _ _ _ (omega arith) c.loop-v.invariant (elim c.if-contains.branch [
+      | then-contains w ↦ inl (sym c.contains.ensures ∙ w.if-contains.true, w.out-is, w.count-is)
+      | else-contains w ↦ inr (sym c.contains.ensures ∙ w.if-contains.false, w.out-is, w.count-is)
+    ]) in
+    record { front = all.0 ∙ ap (members_below S) e; count = all.1 ∙ ap (size S) e; rest = all.2 }
