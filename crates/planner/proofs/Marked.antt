@@ -1,38 +1,17 @@
 -- Marks kept below a bound, and the sets that they stand for.
-use Rattle.std.proofs.Common.{◌≡◌, ℕ, ◌+◌, ◌-◌, ◌<◌, ◌≤◌, Bool, true, false, not, ◌&&◌, ltb, List, length, get_or, set, replicate, sym, ap, ◌∙◌, subst, ⊎_elim, arith, get_or-set_other, get_or-set_same}
+use Rattle.std.proofs.Common.{◌≡◌, ℕ, ◌-◌, ◌<◌, ◌≤◌, Bool, true, not, ◌&&◌, ltb, List, sym, ap, ◌∙◌, subst, ⊎_elim, arith}
 use Rattle.plant.specs.declared.aim.Aim.{Aim}
 use Rattle.plant.specs.Held.{Arc, marked}
 use Rattle.plant.specs.Plants.{Junctions}
 use Rattle.reach.proofs.Bytes.{size_alike, size_past}
-use Rattle.reach.proofs.Drying.{no_mark}
 use Rattle.reach.proofs.Paths.{marks_alike}
 use Rattle.reach.specs.Drawn.{turned}
 use Rattle.reach.specs.Marking.{Marks}
 use Rattle.reach.specs.Sets.{size}
-use Rattle.std.proofs.lemmas.Bool.{and_from, and_left, and_parts, both_ways, cases_Bool, cases_eq, cases_lt, le-ltb, lt-ltb, ltb-true, not-true}
+use Rattle.std.proofs.lemmas.Bool.{and_from, and_parts, both_ways, cases_Bool, lt-ltb, ltb-true, not-true}
 use Rattle.planner.specs.declared.answer.Side.{Side}
 use Rattle.planner.specs.declared.answer.Side.TheVariants.{Far, Near}
 use Rattle.planner.specs.Cuts.{CutSet, Found, Missed, edges}
-
--- nothing is below 0
-pub none_below : (m : ℕ) (g : ℕ → Bool) (k : ℕ) → get_or (replicate m false) k false ≡ (ltb k 0 && g k)
-none_below m g k = no_mark m k ∙ sym (and_left (ltb k 0) (g k) (le-ltb k 0 (omega arith)))
-
-below_next : (k i : ℕ) → (k ≡ i → ⊥) → ltb k i ≡ ltb k (i + 1)
-below_next k i ne = ⊎_elim (λ h. lt-ltb k i h ∙ sym (lt-ltb k (i + 1) (omega arith))) (λ h. le-ltb k i h ∙ sym (le-ltb k (i + 1) (omega (arith, apart h)))) (cases_lt k i)
-  where
-    apart : i ≤ k → i < k
-    apart h = ⊎_elim (λ z. z) (λ z. absurd (ne (omega arith))) (cases_lt i k)
-
--- one junction more
-pub more_below : (rest : List Bool) (g : ℕ → Bool) (i k : ℕ) → i < length rest
-    → get_or rest k false ≡ (ltb k i && g k) → get_or (set rest i (g i)) k false ≡ (ltb k (i + 1) && g k)
-more_below rest g i k l e =
-    ⊎_elim
-    (λ (q : k ≡ i). ap (λ (j : ℕ). get_or (set rest i (g i)) j false) q ∙ get_or-set_same rest i (g i) false l
-    ∙ ap g (sym q) ∙ ap (λ (b : Bool). b && g k) (sym (lt-ltb k (i + 1) (omega arith))))
-    (λ nq. get_or-set_other rest i k (g i) false nq ∙ e ∙ ap (λ (b : Bool). b && g k) (below_next k i nq))
-    (cases_eq k i)
 
 -- the marks below m that a search made
 pub found_set : (e : ℕ → ℕ → Bool) (n from m : ℕ) (marks : List Bool) (S : Junctions) → m ≤ n → Marks e n from marks

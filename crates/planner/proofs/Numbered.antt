@@ -1,8 +1,8 @@
 -- The numbers of the lines that lead out of a set, line by line.
-use Rattle.std.proofs.Common.{◌≡◌, ℕ, suc, ◌+◌, ◌<◌, ◌≤◌, Bool, true, false, cond, List, [], ◌∷◌, ◌++◌, length, get_or, take, set, sym, ap, ◌∙◌, arith}
+use Rattle.std.proofs.Common.{◌≡◌, ℕ, suc, ◌+◌, ◌<◌, ◌≤◌, Bool, true, false, cond, List, [], ◌∷◌, ◌++◌, length, get_or, take, sym, ap, ◌∙◌, arith}
 use Rattle.plant.specs.declared.line.Line.{Line}
 use Rattle.plant.specs.Plants.{Junctions, crossing, leads_out, no_line}
-use Rattle.std.proofs.lemmas.List.{append-nil, length_push, length-take-le, take_more, take_more_set}
+use Rattle.std.proofs.lemmas.List.{append-nil, length_push, length-take-le, take_more}
 
 one_more : (S : Junctions) (k k' : ℕ) (l : Line) → k ≡ k' → cond (leads_out S l) (k ∷ []) [] ≡ cond (leads_out S l) (k' ∷ []) []
 one_more S k k' l e = ap (λ (i : ℕ). cond (leads_out S l) (i ∷ []) []) e
@@ -25,26 +25,20 @@ crossing_more S ls k h =
     ∙ ap (λ (xs : List ℕ). crossing S 0 (take k ls) ++ xs)
     (one_more S (0 + length (take k ls)) k (get_or ls k no_line) (omega (arith, length-take-le k ls (omega arith))))
 
--- the numbers of the lines before k stand at the front
-abbrev pub Numbered : Junctions → List Line → ℕ → ℕ → List ℕ → Type 0
-Numbered S ls k count numbers = (take count numbers ≡ crossing S 0 (take k ls)) × (count ≡ length (crossing S 0 (take k ls))) × (count ≤ k)
+-- the numbers of the lines before k
+abbrev pub Numbered : Junctions → List Line → ℕ → List ℕ → Type 0
+Numbered S ls k numbers = (numbers ≡ crossing S 0 (take k ls)) × (length numbers ≤ k)
 
-pub numbered_then : (S : Junctions) (ls : List Line) (k count count' : ℕ) (numbers numbers' : List ℕ) → k < length ls
-    → leads_out S (get_or ls k no_line) ≡ true → count < length numbers → Numbered S ls k count numbers
-    → numbers' ≡ set numbers count k → count' ≡ count + 1 → Numbered S ls (k + 1) count' numbers'
-numbered_then S ls k count count' numbers numbers' h e l n ne ce =
+pub numbered_then : (S : Junctions) (ls : List Line) (k : ℕ) (numbers numbers' : List ℕ) → k < length ls
+    → leads_out S (get_or ls k no_line) ≡ true → Numbered S ls k numbers → numbers' ≡ numbers ++ k ∷ [] → Numbered S ls (k + 1) numbers'
+numbered_then S ls k numbers numbers' h e n ne =
     let more : crossing S 0 (take (k + 1) ls) ≡ crossing S 0 (take k ls) ++ k ∷ [] =
     crossing_more S ls k h ∙ ap (λ (b : Bool). crossing S 0 (take k ls) ++ cond b (k ∷ []) []) e in
-    rw (ne, ce) (
-      take_more_set numbers count k l ∙ ap (λ (xs : List ℕ). xs ++ k ∷ []) n.0 ∙ sym more,
-      omega (arith, n.1, ap length more, length_push (crossing S 0 (take k ls)) k),
-      omega (arith, n.2),
-    )
+    (ne ∙ ap (λ (xs : List ℕ). xs ++ k ∷ []) n.0 ∙ sym more, omega (arith, ap length ne, length_push numbers k, n.1))
 
-pub numbered_else : (S : Junctions) (ls : List Line) (k count count' : ℕ) (numbers numbers' : List ℕ) → k < length ls
-    → leads_out S (get_or ls k no_line) ≡ false → Numbered S ls k count numbers
-    → numbers' ≡ numbers → count' ≡ count → Numbered S ls (k + 1) count' numbers'
-numbered_else S ls k count count' numbers numbers' h e n ne ce =
+pub numbered_else : (S : Junctions) (ls : List Line) (k : ℕ) (numbers numbers' : List ℕ) → k < length ls
+    → leads_out S (get_or ls k no_line) ≡ false → Numbered S ls k numbers → numbers' ≡ numbers → Numbered S ls (k + 1) numbers'
+numbered_else S ls k numbers numbers' h e n ne =
     let more : crossing S 0 (take (k + 1) ls) ≡ crossing S 0 (take k ls) =
     crossing_more S ls k h ∙ ap (λ (b : Bool). crossing S 0 (take k ls) ++ cond b (k ∷ []) []) e ∙ append-nil (crossing S 0 (take k ls)) in
-    rw (ne, ce) (n.0 ∙ sym more, n.1 ∙ ap length (sym more), omega (arith, n.2))
+    (ne ∙ n.0 ∙ sym more, omega (arith, ap length ne, n.1))

@@ -1,5 +1,5 @@
 //! What can be read off a settled planner.
-ghost use Rattle.std.specs.Prelude.{◌≡◌, ℕ, ◌≤◌, not, ◌&&◌, length, take, None, nat_lt};
+ghost use Rattle.std.specs.Prelude.{◌≡◌, ℕ, ◌≤◌, length, take, None};
 ghost use Rattle.plant.specs.Held.{arcs, marked};
 ghost use Rattle.plant.specs.Plants.{crossing};
 ghost use Rattle.plant.specs.Tests.{pass};
@@ -11,9 +11,10 @@ ghost use Rattle.reach.specs.Marking.{Marks as JustMarks};
 
 use super::super::answer::{Side, Tally};
 use super::{Planner, State};
+use arrayvec::ArrayVec;
 use chooser::Chooser;
 use plant::{Aim, Decline, HeldLine, Line, MAX_LINES, Marks, bound, crosses, shortfall, total_of};
-use reach::{Adjacency, Graph, JunctionSet, Reversed, mark_reached};
+use reach::{Adjacency, Graph, JunctionSet, Reversed, mark_reached, select};
 
 // Marks of the junctions below `n` that the graph reaches from `from`; the marks from `n` on say nothing.
 fn reached<G: Graph>(graph: &G, n: u8, from: u8) -> Marks
@@ -25,28 +26,6 @@ fn reached<G: Graph>(graph: &G, n: u8, from: u8) -> Marks
     marks
 }
 
-// The junctions below `n` that are marked.
-fn confined(n: u8, marks: &Marks) -> Marks
-    ensures { (v : ℕ) → marked result v ≡ (nat_lt v n && marked marks.now v) }
-{
-    let mut rest = [false; 256];
-    for v in 0..n {
-        rest[v as usize] = marks[v as usize];
-    }
-    rest
-}
-
-// The junctions below `n` that are not marked.
-fn others(n: u8, marks: &Marks) -> Marks
-    ensures { (v : ℕ) → marked result v ≡ (nat_lt v n && not (marked marks.now v)) }
-{
-    let mut rest = [false; 256];
-    for v in 0..n {
-        rest[v as usize] = !marks[v as usize];
-    }
-    rest
-}
-
 // The near or the far cut: under the least every residual is read reversed.
 fn cut_marks(side: Side, aim: Aim, n: u8, lines: &[HeldLine]) -> Marks
     ensures { CutSet side aim n (arcs lines.now) (marked result) }
@@ -54,10 +33,10 @@ fn cut_marks(side: Side, aim: Aim, n: u8, lines: &[HeldLine]) -> Marks
     let graph = Adjacency::residuals(lines);
     let back = Reversed { graph: &graph };
     match (side, aim) {
-        (Side::Near, Aim::Greatest) => confined(n, &reached(&graph, n, 0)),
-        (Side::Near, Aim::Least) => confined(n, &reached(&back, n, 0)),
-        (Side::Far, Aim::Greatest) => others(n, &reached(&back, n, 1)),
-        (Side::Far, Aim::Least) => others(n, &reached(&graph, n, 1)),
+        (Side::Near, Aim::Greatest) => select(n, &reached(&graph, n, 0), |marked| marked),
+        (Side::Near, Aim::Least) => select(n, &reached(&back, n, 0), |marked| marked),
+        (Side::Far, Aim::Greatest) => select(n, &reached(&back, n, 1), |marked| !marked),
+        (Side::Far, Aim::Least) => select(n, &reached(&graph, n, 1), |marked| !marked),
     }
 }
 
@@ -67,24 +46,21 @@ fn hurdle_marks(n: u8, lines: &[HeldLine]) -> Marks
     ensures { HurdleSet n (arcs lines.now) (marked result) }
 {
     let graph = Adjacency::residuals(lines);
-    confined(n, &reached(&graph, n + 2, n))
+    select(n, &reached(&graph, n + 2, n), |marked| marked)
 }
 
-// The numbers of the lines that lead out of the set, rising, into the front of `numbers`; answers how many.
-fn crossing_lines(lines: &[Line], set: &Marks, numbers: &mut [u16; MAX_LINES]) -> usize
+// The numbers of the lines that lead out of the set, rising.
+fn crossing_lines(lines: &[Line], set: &Marks) -> ArrayVec<u16, MAX_LINES>
     requires { length lines.now ≤ 1000 }
-    ensures few { result ≤ 1000 }
-    ensures count { result ≡ length (crossing (marked set.now) 0 lines.now) }
-    ensures front { take result numbers.new ≡ crossing (marked set.now) 0 lines.now }
+    ensures { result.items ≡ crossing (marked set.now) 0 lines.now }
 {
-    let mut count = 0;
-    for k in 0..lines.len() {
-        if crosses(&lines[k], set) {
-            numbers[count] = k as u16;
-            count += 1;
+    let mut numbers = ArrayVec::new();
+    for (k, line) in lines.iter().enumerate() {
+        if crosses(line, set) {
+            numbers.push(k as u16);
         }
     }
-    count
+    numbers
 }
 
 // A set into the first 32 bytes of a buffer.
@@ -192,12 +168,12 @@ impl<C: Chooser> Planner<C> {
     {
         expect_flow(self.state)?;
         let marks = self.cut_of(side);
-        let mut numbers = [0u16; MAX_LINES];
-        let count = crossing_lines(self.plant.lines(), &marks, &mut numbers);
+        let numbers = crossing_lines(self.plant.lines(), &marks);
+        let count = numbers.len();
         if out.len() < count {
             return Err(Decline::BufferLength);
         }
-        out[0..count].copy_from_slice(&numbers[0..count]);
+        out[..count].copy_from_slice(numbers.as_slice());
         Ok(count)
     }
 

@@ -1,4 +1,5 @@
-use Rattle.std.proofs.Common.{◌+◌, arith}
+use Rattle.std.proofs.Common.{◌+◌, arith, rules}
+use Rattle.reach.proofs.Selected.{selected}
 use Rattle.plant.specs.Held.{arcs, marked}
 use Rattle.planner.proofs.Marked.{found_set}
 use Rattle.reach.proofs.Paths.{marks_alike}
@@ -10,5 +11,5 @@ returns c =
     let edge = residual_edge (arcs c.args.lines.now) in
     let n = c.args.n in
     let marks = c.reached.result in
-    found_set edge (n + 2) n n marks (marked c.confined.result) (omega arith)
-    (marks_alike (tabled c.residuals-graph.result.rows) edge (n + 2) n marks c.residuals-graph.ensures c.reached.ensures) c.confined.ensures
+    found_set edge (n + 2) n n marks (marked c.select.result) (omega arith)
+    (marks_alike (tabled c.residuals-graph.result.rows) edge (n + 2) n marks c.residuals-graph.ensures c.reached.ensures) (λ v. selected n v (marked c.select.result v) (marked marks v) (λ h. search (rules, c.select.ensures.below v h)) (c.select.ensures.beyond v))
