@@ -33,7 +33,7 @@ use Rattle.plant.specs.declared.line.Line.{Line}
 use Rattle.plant.specs.Held.{flows_of, plant_of}
 use Rattle.plant.specs.Plants.{Plant, with_limits}
 use Rattle.plant.specs.Tests.{test, test_list, test_trial, tested, unless}
-use Rattle.runs.specs.Played.{told_start, told_trial, told_work}
+use Rattle.runs.specs.Played.{told_by}
 use Rattle.runs.specs.Shows.{InPhase, Shows, counts_in, made_in, question_in}
 
 -- a number that passes the tests names its aim
@@ -119,7 +119,7 @@ module _ {C : Type 0} (has : C → ℕ → Bool) where
 
   -- a start
   pub start_told : (clears : C → C → Type 0) (puts : C → ℕ → ℕ → C → Type 0) (takes : C → Option ℕ → C → Type 0) (g : Given) (p p' : Planner C) (r : Result (Unit {0}) Decline) (q : Phase)
-      → Starts has clears puts takes g.n g.lines.items g.aim p r p' → Sound has p' → Shows has p q → (q' : Phase) × Follows q (Start g) (told_start r) q' × Shows has p' q'
+      → Starts has clears puts takes g.n g.lines.items g.aim p r p' → Sound has p' → Shows has p q → (q' : Phase) × Follows q (Start g) (told_by (λ _. told.Started) r) q' × Shows has p' q'
   start_told clears puts takes g p p' (Err d) q h s z = (q, declines q (Start g) (told.Declined d) q d (ap (λ (x : Result Aim Decline). passing x None) h.0) refl refl, shows_like p p' q h.1 z)
   start_told clears puts takes g p p' (Ok x) q h s z =
       let q' = working (question g) 0 no_counts in
@@ -137,7 +137,7 @@ module _ {C : Type 0} (has : C → ℕ → Bool) where
   -- a trial
   pub trial_told : (clears : C → C → Type 0) (puts : C → ℕ → ℕ → C → Type 0) (takes : C → Option ℕ → C → Type 0) (g : Given) (k low high : ℕ) (p p' : Planner C) (r : Result Outcome Decline) (q : Phase)
       → Trials has clears puts takes g.n g.lines.items g.aim k low high p r p' → Sound has p' → Shows has p q
-      → (q' : Phase) × Follows q (Trial g k low high) (told_trial r) q' × Shows has p' q'
+      → (q' : Phase) × Follows q (Trial g k low high) (told_by (λ x. told.Tried x) r) q' × Shows has p' q'
   unfolding limited
   trial_told clears puts takes g k low high p p' (Err d) q h s z = (q, by h.0, shows_like p p' q h.1 z)
     where
@@ -236,7 +236,7 @@ module _ {C : Type 0} (has : C → ℕ → Bool) where
 
     -- a work
     pub work_told : (k : ℕ) (p p' : Planner C) (r : Result (Outcome × ℕ) Decline) (q : Phase) → Works has clears puts takes k p r p' → Sound has p' → Shows has p q
-        → (q' : Phase) × Follows q (Work k) (told_work r) q' × Shows has p' q'
+        → (q' : Phase) × Follows q (Work k) (told_by (λ x. told.Worked x.0 x.1) r) q' × Shows has p' q'
     work_told k p p' (Err d) q h s z = (q, by d h.0, shows_like p p' q h.1 z)
       where
         by : (d : Decline) → calls.WorkFails has clears puts takes k p d → Follows q (Work k) (told.Declined d) q
