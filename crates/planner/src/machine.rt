@@ -11,7 +11,7 @@ pub mod stages;
 pub mod trials;
 
 /// Where a planner stands.
-#[derive(Clone, Copy)]
+#[derive(Clone, Copy, PartialEq, Eq, Debug)]
 pub enum State {
     Idle,
     StageOne,
