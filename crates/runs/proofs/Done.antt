@@ -20,7 +20,7 @@ use Rattle.planner.specs.declared.machine.State.TheVariants.{Idle, SettledFlow, 
 use Rattle.planner.specs.Calls as calls
 use Rattle.planner.specs.Calls.{Starts, Started, Trials, Works, TrialFails, bad_work, limits_fail, nothing, number, plant_fails}
 use Rattle.planner.specs.Limits.{limited}
-use Rattle.planner.specs.Standing.{Sound, Stand, arcs_in, plant_in, two_in}
+use Rattle.planner.specs.Standing.{Sound, Stand, arcs_in, plant_in, stage_in}
 use Rattle.planner.specs.Tallies.{more, no_tally}
 use Rattle.planner.specs.Works.{Runs, SomeActive, Ways, in_one, in_two, in_work, through}
 use Rattle.planner.proofs.Laws.{flow_best, limits, stuck_none}
@@ -34,7 +34,7 @@ use Rattle.plant.specs.declared.line.Line.{Line}
 use Rattle.plant.specs.Held.{flows_of, plant_of}
 use Rattle.plant.specs.Plants.{Plant, with_limits}
 use Rattle.plant.specs.Tests.{test, test_list, test_trial, tested, unless}
-use Rattle.runs.specs.Played.{told_start, told_trial, told_work}
+use Rattle.runs.specs.Played.{told_by}
 use Rattle.runs.specs.Shows.{InPhase, Shows, counts_in, made_in, question_in}
 
 -- a number that passes the tests names its aim
@@ -91,7 +91,7 @@ module _ {C : Type 0} (has : C → ℕ → Bool) where
       let P = plant_in p in
       let none = stuck_none has p s e in
       let worst = worst_exists P (sound_plant p.plant) none in
-      let stuck = subst (λ (m : State). Stand m p.plant.aim P (arcs_in p) p.rows p.one p.two) e s.stand in
+      let stuck = subst (λ (m : State). Stand m p.plant.aim P (stage_in p) p.one p.two) e s.stand in
       let q = blocked (question_in p) worst.0 (counts_in p) in (
         q,
         (worst.0, counts_in p, refl, record { none = none; worst = worst.1 }, within_limited P p.one p.two (sound_plant p.plant) (limits has p s), stuck.one_done.none),
@@ -120,7 +120,7 @@ module _ {C : Type 0} (has : C → ℕ → Bool) where
 
   -- a start
   pub start_told : (clears : C → C → Type 0) (puts : C → ℕ → ℕ → C → Type 0) (takes : C → Option ℕ → C → Type 0) (g : Given) (p p' : Planner C) (r : Result (Unit {0}) Decline) (q : Phase)
-      → Starts has clears puts takes g.n g.lines.items g.aim p r p' → Sound has p' → Shows has p q → (q' : Phase) × Follows q (Start g) (told_start r) q' × Shows has p' q'
+      → Starts has clears puts takes g.n g.lines.items g.aim p r p' → Sound has p' → Shows has p q → (q' : Phase) × Follows q (Start g) (told_by (λ _. told.Started) r) q' × Shows has p' q'
   start_told clears puts takes g p p' (Err d) q h s z = (q, declines q (Start g) (told.Declined d) q d (ap (λ (x : Result Aim Decline). passing x None) h.0) refl refl, shows_like p p' q h.1 z)
   start_told clears puts takes g p p' (Ok x) q h s z =
       let q' = working (question g) 0 no_counts in
@@ -138,7 +138,7 @@ module _ {C : Type 0} (has : C → ℕ → Bool) where
   -- a trial
   pub trial_told : (clears : C → C → Type 0) (puts : C → ℕ → ℕ → C → Type 0) (takes : C → Option ℕ → C → Type 0) (g : Given) (k low high : ℕ) (p p' : Planner C) (r : Result Outcome Decline) (q : Phase)
       → Trials has clears puts takes g.n g.lines.items g.aim k low high p r p' → Sound has p' → Shows has p q
-      → (q' : Phase) × Follows q (Trial g k low high) (told_trial r) q' × Shows has p' q'
+      → (q' : Phase) × Follows q (Trial g k low high) (told_by (λ x. told.Tried x) r) q' × Shows has p' q'
   unfolding limited
   trial_told clears puts takes g k low high p p' (Err d) q h s z = (q, by h.0, shows_like p p' q h.1 z)
     where
@@ -189,10 +189,10 @@ module _ {C : Type 0} (has : C → ℕ → Bool) where
   -- stage two is begun only where a flow is feasible
   begun_by : (p : Planner C) → Sound has p → (m : State) → p.state ≡ m → SomeActive m p → Begun (plant_in p) (counts_in p)
   begun_by p s Idle e a = absurd a
-  begun_by p s StageOne e a = inl (subst (λ (m : State). Stand m p.plant.aim (plant_in p) (arcs_in p) p.rows p.one p.two) e s.stand).none
+  begun_by p s StageOne e a = inl (subst (λ (m : State). Stand m p.plant.aim (plant_in p) (stage_in p) p.one p.two) e s.stand).none
   begun_by p s StageTwo e a =
-      let two = subst (λ (m : State). Stand m p.plant.aim (plant_in p) (arcs_in p) p.rows p.one p.two) e s.stand in
-      inr (two_feasible p.plant p.plant.aim (two_in p) p.one p.two two)
+      let two = subst (λ (m : State). Stand m p.plant.aim (plant_in p) (stage_in p) p.one p.two) e s.stand in
+      inr (two_feasible p.plant p.plant.aim (stage_in p) p.one p.two two)
   begun_by p s SettledFlow e a = absurd a
   begun_by p s SettledImpossible e a = absurd a
 
@@ -237,7 +237,7 @@ module _ {C : Type 0} (has : C → ℕ → Bool) where
 
     -- a work
     pub work_told : (k : ℕ) (p p' : Planner C) (r : Result (Outcome × ℕ) Decline) (q : Phase) → Works has clears puts takes k p r p' → Sound has p' → Shows has p q
-        → (q' : Phase) × Follows q (Work k) (told_work r) q' × Shows has p' q'
+        → (q' : Phase) × Follows q (Work k) (told_by (λ x. told.Worked x.0 x.1) r) q' × Shows has p' q'
     work_told k p p' (Err d) q h s z = (q, by d h.0, shows_like p p' q h.1 z)
       where
         by : (d : Decline) → calls.WorkFails has clears puts takes k p d → Follows q (Work k) (told.Declined d) q

@@ -10,11 +10,11 @@ use Rattle.planner.specs.declared.machine.Planner.{Planner}
 use Rattle.planner.specs.declared.machine.State.{State}
 use Rattle.planner.specs.Calls.{Idles}
 use Rattle.planner.specs.Standing.{Sound}
-use Rattle.std.proofs.lemmas.List.{get_or-set_other, get_or-set_same, length-set, take_more}
+use Rattle.std.proofs.lemmas.List.{get_or_default, get_or-set_other, get_or-set_same, length-set, take_more}
 use Rattle.std.proofs.lemmas.Bool.{cases_eq}
 use Rattle.runs.specs.Played.{Played, Plays, SameCall, SameCalls}
-use Rattle.runs.specs.Shows.{InPhase, Shows}
-use Rattle.runs.proofs.Steps.{Lawful, same_call}
+use Rattle.runs.specs.Shows.{InPhase, Lawful, Shows}
+use Rattle.runs.proofs.Steps.{same_call}
 
 beside_more : (cs : List Call) (rs : List Answer) (c : Call) (r : Answer) → length cs ≡ length rs → beside (cs ++ c ∷ []) (rs ++ r ∷ []) ≡ beside cs rs ++ (c, r) ∷ []
 beside_more [] [] c r e = refl
@@ -49,6 +49,10 @@ sofar_more cs ds i c lt s same =
       later = λ k h. get_or-set_other ds i k c Tallies (λ e. omega (arith, h, e)) ∙ s.later k (omega (arith, h));
     }
 
+-- the call that is next
+pub next_call : (cs ds : List Call) (i : ℕ) (x : Call) → i < length cs → Sofar cs ds i → get_or ds i x ≡ get_or cs i Tallies
+next_call cs ds i x lt s = get_or_default ds i x Tallies (omega (arith, lt, s.many)) ∙ s.later i (omega arith)
+
 pub sofar_same : (cs ds : List Call) (i : ℕ) → Sofar cs ds i → SameCalls cs ds
 sofar_same cs ds i s = record { many = s.many; each = s.each }
 
@@ -68,7 +72,7 @@ module _ {C : Type 0} (has : C → ℕ → Bool) (clears : C → C → Type 0) (
   running_new c p n s = record { plays = refl; phase = idle; run = refl; shows = record { sound = s; phase = subst (λ (m : State). InPhase m p idle) (sym n.state) refl } }
 
   pub running_more : (first : Planner C) (cs : List Call) (rs rs' : List Answer) (i : ℕ) (r : Answer) (p p' : Planner C) → i < length cs → length rs ≡ i → rs' ≡ rs ++ r ∷ []
-      → Running first (beside (take i cs) rs) p → Played has clears puts takes p (get_or cs i Tallies) r p' → Lawful has clears puts takes p (get_or cs i Tallies) r p'
+      → Running first (beside (take i cs) rs) p → Played has clears puts takes p (get_or cs i Tallies) r p' → Lawful has p (get_or cs i Tallies) r p'
       → Running first (beside (take (i + 1) cs) rs') p'
   running_more first cs rs rs' i r p p' lt long is w played lawful =
       let f = lawful w.phase w.shows in

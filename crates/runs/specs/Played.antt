@@ -1,5 +1,5 @@
 -- The run of the model: what each call does to the planner and its chooser.
-use Rattle.std.specs.Prelude.{◌≡◌, ℕ, ◌<◌, Bool, cond, List, [], ◌∷◌, length, ℤ, Some, None, Ok, Err, Option, Result, slice_index_or}
+use Rattle.std.specs.Prelude.{◌≡◌, ℕ, ◌<◌, Bool, cond, List, [], ◌∷◌, length, Some, None, Ok, Err, Option, Result, slice_index_or}
 use Rattle.law.specs.declared.script.Answer.{Answer}
 use Rattle.law.specs.declared.script.Answer.TheVariants as told
 use Rattle.law.specs.declared.script.Call.{Call}
@@ -26,42 +26,17 @@ out_of_turn m (Crossing side room) = test_flow m
 out_of_turn m (Hurdle room) = test_hurdle m
 out_of_turn m Tallies = None
 
--- the answers that tell what a start, a work and a trial gave
-abbrev pub told_start : Result (Unit {0}) Decline → Answer
-told_start (Ok x) = told.Started
-told_start (Err d) = told.Declined d
-
-abbrev pub told_work : Result (Outcome × ℕ) Decline → Answer
-told_work (Ok x) = told.Worked x.0 x.1
-told_work (Err d) = told.Declined d
-
-abbrev pub told_trial : Result Outcome Decline → Answer
-told_trial (Ok o) = told.Tried o
-told_trial (Err d) = told.Declined d
-
--- and what a reading gave
-abbrev pub told_total : Result ℤ Decline → Answer
-told_total (Ok t) = told.Total t
-told_total (Err d) = told.Declined d
-
-abbrev pub told_flow : Result ℕ Decline → Answer
-told_flow (Ok x) = told.Flow x
-told_flow (Err d) = told.Declined d
-
-abbrev pub told_cut : Result (ℕ × ℤ) Decline → List ℕ → Answer
-told_cut (Ok x) set = told.Cut set x.0 x.1
-told_cut (Err d) set = told.Declined d
-
-abbrev pub told_hurdle : Result (ℕ × ℕ) Decline → List ℕ → Answer
-told_hurdle (Ok x) set = told.Hurdle set x.0 x.1
-told_hurdle (Err d) set = told.Declined d
+-- the answer that tells what a call gave, or why it was declined
+abbrev pub told_by : {A : Type 0} → (A → Answer) → Result A Decline → Answer
+told_by f (Ok x) = f x
+told_by f (Err d) = told.Declined d
 
 module _ {C : Type 0} (has : C → ℕ → Bool) (clears : C → C → Type 0) (puts : C → ℕ → ℕ → C → Type 0) (takes : C → Option ℕ → C → Type 0) where
   -- one call leads from planner p to p': by the discharges that were made, each of a junction that the chooser gave; a reading leaves it
   abbrev pub Played : Planner C → Call → Answer → Planner C → Type 0
-  Played p (Start g) r p' = (s : Result (Unit {0}) Decline) × (r ≡ told_start s) × Starts has clears puts takes g.n g.lines.items g.aim p s p'
-  Played p (Work k) r p' = (s : Result (Outcome × ℕ) Decline) × (r ≡ told_work s) × Works has clears puts takes k p s p'
-  Played p (Trial g k low high) r p' = (s : Result Outcome Decline) × (r ≡ told_trial s) × Trials has clears puts takes g.n g.lines.items g.aim k low high p s p'
+  Played p (Start g) r p' = (s : Result (Unit {0}) Decline) × (r ≡ told_by (λ _. told.Started) s) × Starts has clears puts takes g.n g.lines.items g.aim p s p'
+  Played p (Work k) r p' = (s : Result (Outcome × ℕ) Decline) × (r ≡ told_by (λ x. told.Worked x.0 x.1) s) × Works has clears puts takes k p s p'
+  Played p (Trial g k low high) r p' = (s : Result Outcome Decline) × (r ≡ told_by (λ x. told.Tried x) s) × Trials has clears puts takes g.n g.lines.items g.aim k low high p s p'
   Played p Total r p' = p' ≡ p
   Played p (Flow k) r p' = p' ≡ p
   Played p (Cut side room) r p' = p' ≡ p

@@ -26,8 +26,8 @@ pub fn replay<C: Chooser + Drop>(
 {
     let mut planner = Planner::new(chooser);
     let mut answers = Vec::new(heap);
-    for i in 0..script.len() {
-        let answer = play(&mut planner, &mut script[i], heap)?;
+    for call in script.iter_mut() {
+        let answer = play(&mut planner, call, heap)?;
         answers.push(answer)?;
     }
     Ok(answers)

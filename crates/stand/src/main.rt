@@ -7,7 +7,7 @@ mod words;
 use chooser::{Chooser, Fifo, HighestLabel};
 use runs::replay;
 use script::whole_script;
-use words::{print_answer, print_call};
+use words::Words;
 
 // Plays the script on a new planner over the chooser, and prints it from beginning to end.
 fn show<C: Chooser + Drop>(rt: &HostRuntime, name: &str, chooser: C) -> anyhow::Result<()> {
@@ -15,19 +15,14 @@ fn show<C: Chooser + Drop>(rt: &HostRuntime, name: &str, chooser: C) -> anyhow::
     let answers = replay(chooser, &mut script, rt.alloc())?;
     println!(rt; "with the {name} chooser")?;
     for (call, answer) in script.iter().zip(answers.iter()) {
-        print_call(rt, call)?;
-        print_answer(rt, answer)?;
+        println!(rt; "{}", Words(call))?;
+        println!(rt; "    {}", Words(answer))?;
     }
     Ok(())
 }
 
-// Plays it over both choosers.
-fn show_both(rt: &HostRuntime) -> anyhow::Result<()> {
-    show(rt, "arrival-order", Fifo::new())?;
-    println!(rt; "")?;
-    show(rt, "highest-label", HighestLabel::new())
-}
-
 fn main(rt: HostRuntime) -> anyhow::Result<()> {
-    show_both(&rt)
+    show(&rt, "arrival-order", Fifo::new())?;
+    println!(rt; "")?;
+    show(&rt, "highest-label", HighestLabel::new())
 }
