@@ -76,7 +76,7 @@ accepted_known p n (Work k) r q h a e (o, m, i, (b, sum, t, is, w, counted)) =
     let num : sum ≡ n = subst (λ (z : Phase). AsksFor z n) is a in
     let known' : Known q (question_of p) (Some o) (n + k) = subst (λ (z : Phase). Known q (question_of z) (Some o) (n + k)) (sym is) (subst (λ (x : ℕ). Known q (Some b) (Some o) (x + k)) num known) in
     subst (λ (x : Answer). After p n (Work k) x q) (sym i) known'
-accepted_known p n (Trial g k low high) r q h a e (o, i, s, w) = subst (λ (x : Answer). After p n (Trial g k low high) x q) (sym i) (settled_known (tried g k low high) o q 0 (fit_tried g k low high e) s)
+accepted_known p n (Trial g t) r q h a e (o, i, s, w) = subst (λ (x : Answer). After p n (Trial g t) x q) (sym i) (settled_known (tried g t) o q 0 (fit_tried g t e) s)
 accepted_known p n Total r q h a e (j, b, s, t, is, i) = subst (λ (x : Answer). After p n Total x q) (sym i) (same_known p q n h a j)
 accepted_known p n (Flow k) r q h a e (j, b, s, t, is, i) = subst (λ (x : Answer). After p n (Flow k) x q) (sym i) (same_known p q n h a j)
 accepted_known p n (Cut side room) r q h a e (j, b, s, t, is, i) = subst (λ (x : Answer). After p n (Cut side room) x q) (sym i) (same_known p q n h a j)
@@ -124,7 +124,7 @@ accepted_made p d (Start g) r q h (i, j) =
 accepted_made p d (Work k) r q h (o, m, i, (b, sum, t, is, w, counted)) =
     let at : CountsMade t d = subst (λ (z : Phase). CountsMade (counts_of z) d) is h in
     subst (λ (x : Answer). CountsMade (counts_of q) (makes x d)) (sym i) (worked_made t (counts_of q) m d counted at)
-accepted_made p d (Trial g k low high) r q h (o, i, s, w) = subst (λ (x : Answer). CountsMade (counts_of q) (makes x d)) (sym i) (λ m e. absurd (no_some m e))
+accepted_made p d (Trial g t) r q h (o, i, s, w) = subst (λ (x : Answer). CountsMade (counts_of q) (makes x d)) (sym i) (λ m e. absurd (no_some m e))
 accepted_made p d Total r q h (j, b, s, t, is, i) = subst (λ (x : Answer). CountsMade (counts_of q) (makes x d)) (sym i) (same_made p q d h j)
 accepted_made p d (Flow k) r q h (j, b, s, t, is, i) = subst (λ (x : Answer). CountsMade (counts_of q) (makes x d)) (sym i) (same_made p q d h j)
 accepted_made p d (Cut side room) r q h (j, b, s, t, is, i) = subst (λ (x : Answer). CountsMade (counts_of q) (makes x d)) (sym i) (same_made p q d h j)

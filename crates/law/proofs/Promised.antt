@@ -114,13 +114,13 @@ settles_flow b outcome.Flow r u q s e = refl
 settles_flow b outcome.Impossible r u q (H, t, is, x, l, y) e = let z : ◌≡◌ {A = ℕ} 0 1 = cc in absurd (omega arith)
 
 widening_flows : (h : Script) → Law idle h → promise.WideningFlows h
-widening_flows h (q, run) before after a k g i low high o e ask stand w =
-    let c = reach before ((Trial g i low high, told.Tried o) ∷ after) h q e run in
+widening_flows h (q, run) before after a k g lim o e ask stand w =
+    let c = reach before ((Trial g lim, told.Tried o) ∷ after) h q e run in
     let is = flowing_outcome c.0 a (c.1.question ∙ ask) (c.1.outcome ∙ stand) in
     let r = c.2 in
-    let x = trial_on g i low high o c.0 r.0 r.1 in
+    let x = trial_on g lim o c.0 r.0 r.1 in
     let y = x.1 a is.0 is.1 k is.2 w in
-    settles_flow (tried g i low high) o y.0 y.1 r.0 x.0 y.2
+    settles_flow (tried g lim) o y.0 y.1 r.0 x.0 y.2
 
 -- the bytes of a cut have its members
 cut_members : (n : ℕ) (S : Junctions) → n ≤ 250 → ((v : ℕ) → S v ≡ true → v < n) → (bytes : List ℕ) → bytes ≡ set_bytes S → (v : ℕ) → member bytes v ≡ S v
@@ -130,8 +130,8 @@ cut_members n S few inside bytes e v = ap (λ (xs : List ℕ). member xs v) e �
     out w j = elim (cases_Bool (S w)) [ inl t ↦ absurd (omega (arith, inside w t)) | inr f ↦ f ]
 
 widening_totals : (h : Script) → Law idle h → promise.WideningTotals h
-widening_totals h (q, run) before piece later after a k t t' near far m n b c rn rf g i low high o e ask keep keep' read-t read-near read-far w read-t' =
-    let rest = (Trial g i low high, told.Tried o) ∷ (later ++ after) in
+widening_totals h (q, run) before piece later after a k t t' near far m n b c rn rf g lim o e ask keep keep' read-t read-near read-far w read-t' =
+    let rest = (Trial g lim, told.Tried o) ∷ (later ++ after) in
     let x = piece_end before piece rest h a q e ask keep run in
     let y = read_there a piece rest q x Total (told.Total t) (λ a s. t ≡ total a.plant s.flow) (total_on t) keep read-t in
     let s = y.0 in
@@ -144,13 +144,13 @@ widening_totals h (q, run) before piece later after a k t t' near far m n b c rn
     let near-is = cut_members a.plant.junctions s.near few solved.near.tightest.cut.inside near at-near.0 in
     let far-is = cut_members a.plant.junctions s.far few solved.far.tightest.cut.inside far at-far.0 in
     let r = x.goes_on in
-    let tr = trial_on g i low high o x.end r.0 r.1 in
+    let tr = trial_on g lim o x.end r.0 r.1 in
     let wide = tr.1 a s u k y.2 w in
     let d = run_split later after r.0 q r.2 in
-    let ends = flow_stays later (tried g i low high) wide.0 wide.1 r.0 d.0 wide.2 keep' d.1 in
+    let ends = flow_stays later (tried g lim) wide.0 wide.1 r.0 d.0 wide.2 keep' d.1 in
     let z = read_end Total (told.Total t') (λ a s. t' ≡ total a.plant s.flow) (total_on t') later r.0 d.0 keep' read-t' d.1 in
-    let same = same_flowing z.0 (tried g i low high) z.1 wide.0 z.2 wide.1 (sym z.3 ∙ ends) in
-    let new : t' ≡ total (tried g i low high).plant wide.0.flow = z.4 ∙ ap (λ (b : Question). total b.plant z.1.flow) same.0 ∙ ap (λ (p : Plan). total (tried g i low high).plant p.flow) same.1 in
+    let same = same_flowing z.0 (tried g lim) z.1 wide.0 z.2 wide.1 (sym z.3 ∙ ends) in
+    let new : t' ≡ total (tried g lim).plant wide.0.flow = z.4 ∙ ap (λ (b : Question). total b.plant z.1.flow) same.0 ∙ ap (λ (p : Plan). total (tried g lim).plant p.flow) same.1 in
     let old : t ≡ total a.plant s.flow = y.3 in
     let l = line a.plant k in (
       λ eq leads. wide.3.0 (sym new ∙ eq ∙ old) (sym (near-is l.from) ∙ leads.0, sym (far-is l.to) ∙ leads.1),
@@ -229,10 +229,10 @@ work : (h : Script) → Law idle h → promise.WorkLaw h
 work h (q, run) before after a k o m e ask = let x = worked_now before after h a k o m q e ask run in worked_true a (works 0 before) k o m x.0 x.1
 
 trial : (h : Script) → Law idle h → promise.TrialLaw h
-trial h (q, run) before after g i low high o e =
-    let x = reach before ((Trial g i low high, told.Tried o) ∷ after) h q e run in
+trial h (q, run) before after g lim o e =
+    let x = reach before ((Trial g lim, told.Tried o) ∷ after) h q e run in
     let next = x.2 in
-    settled_true (tried g i low high) o next.0 (trial_on g i low high o x.0 next.0 next.1).0
+    settled_true (tried g lim) o next.0 (trial_on g lim o x.0 next.0 next.1).0
 
 limits : (h : Script) → Law idle h → promise.LimitLaw h
 limits h (q, run) before after a k m e ask = let x = worked_now before after h a k outcome.InWork m q e ask run in x.1.4

@@ -1,4 +1,5 @@
 -- What a told answer says of the phase, and that readings in a piece that keeps the question speak of one plan.
+use Rattle.plant.specs.declared.line.Trial as limits
 use Rattle.std.proofs.Common.{◌≡◌, ℕ, Bool, true, false, not, ◌&&◌, ◌↔◌, List, [], ◌∷◌, ℤ, Some, None, Option, Vec, sym, refl, ap, ◌∙◌, subst, inl, inr, arith}
 use Rattle.law.specs.declared.script.Answer.{Answer}
 use Rattle.law.specs.declared.script.Answer.TheVariants as told
@@ -23,7 +24,7 @@ use Rattle.std.specs.declared.alloc.Global.{Global}
 not_declined : (p : Phase) (c : Call) (d : Decline) (q : Phase) → Accepted p c (told.Declined d) q → ⊥
 not_declined p (Start g) d q (i, j) = let z : ◌≡◌ {A = ℕ} 0 1 = cc in omega arith
 not_declined p (Work k) d q (o, m, i, w) = let z : ◌≡◌ {A = ℕ} 0 1 = cc in omega arith
-not_declined p (Trial g k low high) d q (o, i, s, w) = let z : ◌≡◌ {A = ℕ} 0 1 = cc in omega arith
+not_declined p (Trial g t) d q (o, i, s, w) = let z : ◌≡◌ {A = ℕ} 0 1 = cc in omega arith
 not_declined p Total d q (j, a, s, t, is, i) = let z : ◌≡◌ {A = ℕ} 0 1 = cc in omega arith
 not_declined p (Flow k) d q (j, a, s, t, is, i) = let z : ◌≡◌ {A = ℕ} 0 1 = cc in omega arith
 not_declined p (Cut side room) d q (j, a, s, t, is, i) = let z : ◌≡◌ {A = ℕ} 0 1 = cc in omega arith
@@ -101,8 +102,8 @@ work_on k o m p q f = let y = took p (Work k) (told.Worked o m) q refl f in let 
     is : (x y : Outcome) (m n : ℕ) → told.Worked x m ≡ told.Worked y n → (y ≡ x) × (n ≡ m)
     is x y m n e = (cc, cc)
 
-pub trial_on : (g : Given) (k low high : ℕ) (o : Outcome) (p q : Phase) → Follows p (Trial g k low high) (told.Tried o) q → Settles (tried g k low high) o q × Widening p (tried g k low high) q
-trial_on g k low high o p q f = let y = took p (Trial g k low high) (told.Tried o) q refl f in (subst (λ (x : Outcome). Settles (tried g k low high) x q) (is o y.0 y.1) y.2, y.3)
+pub trial_on : (g : Given) (lim : limits.Trial) (o : Outcome) (p q : Phase) → Follows p (Trial g lim) (told.Tried o) q → Settles (tried g lim) o q × Widening p (tried g lim) q
+trial_on g lim o p q f = let y = took p (Trial g lim) (told.Tried o) q refl f in (subst (λ (x : Outcome). Settles (tried g lim) x q) (is o y.0 y.1) y.2, y.3)
   where
     is : (x y : Outcome) → told.Tried x ≡ told.Tried y → y ≡ x
     is x y e = cc
@@ -123,7 +124,7 @@ step_stays a s u c r q n f = go (refusal (flowing a s u) c) f
     by : (c : Call) → asking (c, r) ≡ false → Accepted (flowing a s u) c r q → q ≡ flowing a s u
     by (Start g) n (i, j) = absurd (true≢false (sym (ap (λ (x : Answer). asking (Start g, x)) i) ∙ n))
     by (Work k) n (o, m, i, (b, sum, t, is, w, counted)) = let z : ◌≡◌ {A = ℕ} 0 1 = cc in absurd (omega arith)
-    by (Trial g k low high) n (o, i, x, w) = absurd (true≢false (sym (ap (λ (x : Answer). asking (Trial g k low high, x)) i) ∙ n))
+    by (Trial g t) n (o, i, x, w) = absurd (true≢false (sym (ap (λ (x : Answer). asking (Trial g t, x)) i) ∙ n))
     by Total n x = x.0
     by (Flow k) n x = x.0
     by (Cut side room) n x = x.0

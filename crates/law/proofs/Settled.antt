@@ -1,4 +1,5 @@
 -- Questions that pass the tests: each has a settlement, of which only the flow is open, and the widening rule follows from it.
+use Rattle.plant.specs.declared.line.Trial as limits
 use Rattle.std.proofs.Common.{◌≡◌, ℕ, ◌+◌, ◌*◌, ◌<◌, ◌≤◌, ◌↔◌, length, Some, None, Ok, Err, Option, Result, sym, refl, subst, inl, inr, mul-pos, arith}
 use Rattle.cuts.proofs.Bests.{best_exists, far_largest, far_same, near_same, near_smallest}
 use Rattle.cuts.proofs.Hurdles.{feasible_or, no_flow, worst_same}
@@ -49,12 +50,12 @@ fit_given g on e =
     let p = past (tested g.n g.lines.items g.aim) on e in
     fit (question g) (passed g.n g.aim g.lines.items p.0 (sym p.1))
 
-pub fit_tried : (g : Given) (k low high : ℕ) → test_given g (test_trial (length g.lines.items) k low high) ≡ None → Fit (tried g k low high)
+pub fit_tried : (g : Given) (lim : limits.Trial) → test_given g (test_trial (length g.lines.items) lim.line lim.low lim.high) ≡ None → Fit (tried g lim)
 unfolding limited
-fit_tried g k low high e =
-    let p = past (tested g.n g.lines.items g.aim) (test_trial (length g.lines.items) k low high) e in
-    let t = limited_tested g.n g.aim k low high g.lines.items p.0 p.1 p.2 in
-    fit (tried g k low high) (passed g.n g.aim (limited g.lines.items k low high) p.0 (sym t))
+fit_tried g lim e =
+    let p = past (tested g.n g.lines.items g.aim) (test_trial (length g.lines.items) lim.line lim.low lim.high) e in
+    let t = limited_tested g.n g.aim lim.line lim.low lim.high g.lines.items p.0 p.1 p.2 in
+    fit (tried g lim) (passed g.n g.aim (limited g.lines.items lim.line lim.low lim.high) p.0 (sym t))
 
 -- no stage has counted yet
 none_few : (n m : ℕ) → 0 < n → Few n m no_counts.one
@@ -97,7 +98,7 @@ settlement a h = elim (feasible_or a.plant h.sound) [
 ]
 
 pub every_settled : EverySettled
-every_settled = (λ p g e. settlement (question g) (fit_given g None e), λ p g k low high e. settlement (tried g k low high) (fit_tried g k low high e))
+every_settled = (λ p g e. settlement (question g) (fit_given g None e), λ p g lim e. settlement (tried g lim) (fit_tried g lim e))
 
 -- ---- what is fixed
 pub readings_fixed : ReadingsFixed

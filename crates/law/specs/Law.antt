@@ -54,7 +54,7 @@ OnHurdle p q F = (q ≡ p) × (a : Question) × (H : Junctions) × (t : Counts) 
 abbrev pub Accepted : Phase → Call → Answer → Phase → Type 0
 Accepted p (Start g) r q = (r ≡ told.Started) × (q ≡ working (question g) 0 no_counts)
 Accepted p (Work k) r q = (o : Outcome) × (m : ℕ) × (r ≡ told.Worked o m) × Works p k o m q
-Accepted p (Trial g k low high) r q = (o : Outcome) × (r ≡ told.Tried o) × Settles (tried g k low high) o q × Widening p (tried g k low high) q
+Accepted p (Trial g t) r q = (o : Outcome) × (r ≡ told.Tried o) × Settles (tried g t) o q × Widening p (tried g t) q
 Accepted p Total r q = OnFlow p q (λ a s. r ≡ told.Total (total a.plant s.flow))
 Accepted p (Flow k) r q = OnFlow p q (λ a s. r ≡ told.Flow (at s.flow k))
 Accepted p (Cut side room) r q =

@@ -1,4 +1,5 @@
 -- How a planner stands between two calls.
+use Rattle.plant.specs.declared.line.Trial as limits
 use Rattle.std.specs.Prelude.{◌≡◌, ℕ, ◌+◌, ◌*◌, ◌≤◌, cond, ◌⊎◌, length, ◌==◌}
 use Rattle.first.specs.Theorems.{uneven}
 use Rattle.law.specs.declared.script.Given.{Given}
@@ -24,9 +25,9 @@ aim_of a = cond (a == 1) Greatest Least
 abbrev pub question : Given → Question
 question g = record { plant = record { junctions = g.n; lines = g.lines.items }; aim = aim_of g.aim }
 
--- the question of a trial: what is handed over, with the limits low and high on line k
-abbrev pub tried : Given → ℕ → ℕ → ℕ → Question
-tried g k low high = record { plant = with_limits (question g).plant k low high; aim = aim_of g.aim }
+-- the question of a trial: what is handed over, with its limits on its line
+abbrev pub tried : Given → limits.Trial → Question
+tried g t = record { plant = with_limits (question g).plant t.line t.low t.high; aim = aim_of g.aim }
 
 -- a flow with the near and the far cut
 pub record Plan : Type 0 where

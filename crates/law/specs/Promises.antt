@@ -1,4 +1,5 @@
 -- What follows from the law: promises over calls and answers alone, and what is fixed.
+use Rattle.plant.specs.declared.line.Trial as limits
 use Rattle.std.specs.Prelude.{◌≡◌, ℕ, ◌+◌, ◌<◌, ◌≤◌, true, ◌≢◌, ◌↔◌, List, ◌∷◌, ◌++◌, length, ℤ, Some, None, Vec}
 use Rattle.law.specs.declared.script.Answer.{Answer}
 use Rattle.law.specs.declared.script.Answer.TheVariants as told
@@ -30,19 +31,19 @@ DeclineLaw h =
 -- a trial that widens line k of a question that stands with a flow is settled with a flow
 abbrev pub WideningFlows : Script → Type 0
 WideningFlows h =
-    (before after : Script) (a : Question) (k : ℕ) (g : Given) (i low high : ℕ) (o : Outcome)
-    → h ≡ before ++ (call.Trial g i low high, told.Tried o) ∷ after
-    → asked None before ≡ Some a → stands None before ≡ Some outcome.Flow → Widens a k (tried g i low high)
+    (before after : Script) (a : Question) (k : ℕ) (g : Given) (lim : limits.Trial) (o : Outcome)
+    → h ≡ before ++ (call.Trial g lim, told.Tried o) ∷ after
+    → asked None before ≡ Some a → stands None before ≡ Some outcome.Flow → Widens a k (tried g lim)
     → o ≡ outcome.Flow
 
 -- and the total read after it is the one read before it exactly if the line does not lead from the near set read to beyond the far one, whatever calls that keep the question stand between
 abbrev pub WideningTotals : Script → Type 0
 WideningTotals h =
-    (before piece later after : Script) (a : Question) (k : ℕ) (t t' : ℤ) (near far : List ℕ) (m n : ℕ) (b c : ℤ) (r s : ℕ) (g : Given) (i low high : ℕ) (o : Outcome)
-    → h ≡ before ++ (piece ++ (call.Trial g i low high, told.Tried o) ∷ (later ++ after))
+    (before piece later after : Script) (a : Question) (k : ℕ) (t t' : ℤ) (near far : List ℕ) (m n : ℕ) (b c : ℤ) (r s : ℕ) (g : Given) (lim : limits.Trial) (o : Outcome)
+    → h ≡ before ++ (piece ++ (call.Trial g lim, told.Tried o) ∷ (later ++ after))
     → asked None before ≡ Some a → kept piece ≡ true → kept later ≡ true
     → Told piece call.Total (told.Total t) → Told piece (call.Cut Near r) (told.Cut near m b) → Told piece (call.Cut Far s) (told.Cut far n c)
-    → Widens a k (tried g i low high) → Told later call.Total (told.Total t')
+    → Widens a k (tried g lim) → Told later call.Total (told.Total t')
     → t' ≡ t ↔ (Leads (member near) (member far) (line a.plant k) → ⊥)
 
 -- the numbers read of all lines are a best flow of the plant, and its total is the one read, whatever calls that keep the question stand between
@@ -109,9 +110,9 @@ WorkLaw h =
 -- a trial settles
 abbrev pub TrialLaw : Script → Type 0
 TrialLaw h =
-    (before after : Script) (g : Given) (i low high : ℕ) (o : Outcome)
-    → h ≡ before ++ (call.Trial g i low high, told.Tried o) ∷ after
-    → TrueOf (tried g i low high) o × (o ≢ outcome.InWork)
+    (before after : Script) (g : Given) (lim : limits.Trial) (o : Outcome)
+    → h ≡ before ++ (call.Trial g lim, told.Tried o) ∷ after
+    → TrueOf (tried g lim) o × (o ≢ outcome.InWork)
 
 -- a work that leaves the question in work: the works since the start ask together for less than the limit
 abbrev pub LimitLaw : Script → Type 0
@@ -183,4 +184,4 @@ WorksAnswered = (h : Script) (q : Phase) (k : ℕ) → Run idle h q → refusal 
 abbrev pub EverySettled : Type 0
 EverySettled =
     ((p : Phase) (g : Given) → refusal p (call.Start g) ≡ None → (o : Outcome) × (q : Phase) × Settles (question g) o q)
-    × ((p : Phase) (g : Given) (k low high : ℕ) → refusal p (call.Trial g k low high) ≡ None → (o : Outcome) × (q : Phase) × Settles (tried g k low high) o q)
+    × ((p : Phase) (g : Given) (lim : limits.Trial) → refusal p (call.Trial g lim) ≡ None → (o : Outcome) × (q : Phase) × Settles (tried g lim) o q)

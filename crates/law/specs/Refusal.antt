@@ -49,7 +49,7 @@ test_room needed room = test bad.BufferLength (nat_lt room needed) None
 abbrev pub refusal : Phase → Call → Option Decline
 refusal p (Start g) = test_given g None
 refusal p (Work k) = test_work p (test bad.WorkNumber (bad_work k) None)
-refusal p (Trial g k low high) = test_given g (test_trial (length g.lines.items) k low high)
+refusal p (Trial g t) = test_given g (test_trial (length g.lines.items) t.line t.low t.high)
 refusal p Total = test_flow p (λ a s. None)
 refusal p (Flow k) = test_flow p (λ a s. test bad.LineNumber (nat_le (length a.plant.lines) k) None)
 refusal p (Cut side room) = test_flow p (λ a s. test_room 32 room)

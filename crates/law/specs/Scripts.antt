@@ -29,7 +29,7 @@ taken (told.Declined d) = false
 abbrev pub asks : Call → Option Question
 asks (Start g) = Some (question g)
 asks (Work k) = None
-asks (Trial g k low high) = Some (tried g k low high)
+asks (Trial g t) = Some (tried g t)
 asks Total = None
 asks (Flow k) = None
 asks (Cut side room) = None
@@ -77,7 +77,7 @@ stands o (x ∷ h) = stands (tells x.1 o) h
 abbrev pub adds : Call → ℕ → ℕ
 adds (Start g) n = 0
 adds (Work k) n = n + k
-adds (Trial g k low high) n = 0
+adds (Trial g t) n = 0
 adds Total n = n
 adds (Flow k) n = n
 adds (Cut side room) n = n

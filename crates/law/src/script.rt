@@ -1,6 +1,6 @@
 //! What may be asked of a planner, and what it answers.
 use planner::{Outcome, Side, Tally};
-use plant::{Decline, Line};
+use plant::{Decline, Line, Trial};
 
 /// What a caller hands over, before any test.
 #[derive(Drop)]
@@ -21,9 +21,7 @@ pub enum Call {
     /// Takes up and settles what is given, with other limits on one line.
     Trial {
         given: Given,
-        line: u16,
-        low: u32,
-        high: u32,
+        trial: Trial,
     },
     /// Reads the total settled.
     Total,

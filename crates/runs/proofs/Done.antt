@@ -1,4 +1,5 @@
 -- Starts, works and trials of a planner follow the law.
+use Rattle.plant.specs.declared.line.Trial as limits
 use Rattle.std.proofs.Common.{◌≡◌, ℕ, ◌+◌, ◌<◌, Bool, true, false, cond, eqb, List, length, Some, None, Ok, Err, Option, Result, sym, refl, ap, ◌∙◌, subst, inl, inr, arith}
 use Rattle.cuts.proofs.Bests.{best_meets, near_far}
 use Rattle.cuts.proofs.Hurdles.{worst_exists}
@@ -136,24 +137,24 @@ module _ {C : Type 0} (has : C → ℕ → Bool) where
       )
 
   -- a trial
-  pub trial_told : (clears : C → C → Type 0) (puts : C → ℕ → ℕ → C → Type 0) (takes : C → Option ℕ → C → Type 0) (g : Given) (k low high : ℕ) (p p' : Planner C) (r : Result Outcome Decline) (q : Phase)
-      → Trials has clears puts takes g.n g.lines.items g.aim k low high p r p' → Sound has p' → Shows has p q
-      → (q' : Phase) × Follows q (Trial g k low high) (told_by (λ x. told.Tried x) r) q' × Shows has p' q'
+  pub trial_told : (clears : C → C → Type 0) (puts : C → ℕ → ℕ → C → Type 0) (takes : C → Option ℕ → C → Type 0) (g : Given) (lim : limits.Trial) (p p' : Planner C) (r : Result Outcome Decline) (q : Phase)
+      → Trials has clears puts takes g.n g.lines.items g.aim lim.line lim.low lim.high p r p' → Sound has p' → Shows has p q
+      → (q' : Phase) × Follows q (Trial g lim) (told_by (λ x. told.Tried x) r) q' × Shows has p' q'
   unfolding limited
-  trial_told clears puts takes g k low high p p' (Err d) q h s z = (q, by h.0, shows_like p p' q h.1 z)
+  trial_told clears puts takes g lim p p' (Err d) q h s z = (q, by h.0, shows_like p p' q h.1 z)
     where
-      by : TrialFails g.n g.lines.items g.aim k low high d → Follows q (Trial g k low high) (told.Declined d) q
-      by (plant_fails e) = declines q (Trial g k low high) (told.Declined d) q d (ap (λ (x : Result Aim Decline). passing x (test_trial (length g.lines.items) k low high)) e) refl refl
+      by : TrialFails g.n g.lines.items g.aim lim.line lim.low lim.high d → Follows q (Trial g lim) (told.Declined d) q
+      by (plant_fails e) = declines q (Trial g lim) (told.Declined d) q d (ap (λ (x : Result Aim Decline). passing x (test_trial (length g.lines.items) lim.line lim.low lim.high)) e) refl refl
       by (limits_fail aim e f) =
-          declines q (Trial g k low high) (told.Declined d) q d (ap (λ (x : Result Aim Decline). passing x (test_trial (length g.lines.items) k low high)) e ∙ f) refl refl
-  trial_told clears puts takes g k low high p p' (Ok o) q h s z =
-      let ea : question_in p' ≡ tried g k low high =
-      ap (λ (y : Plant). record { plant = y; aim = p'.plant.aim }) h.plant ∙ ap (λ (y : Aim). record { plant = with_limits (question g).plant k low high; aim = y }) (sym (tested_aim g.n g.aim g.lines.items p'.plant.aim h.tests)) in
+          declines q (Trial g lim) (told.Declined d) q d (ap (λ (x : Result Aim Decline). passing x (test_trial (length g.lines.items) lim.line lim.low lim.high)) e ∙ f) refl refl
+  trial_told clears puts takes g lim p p' (Ok o) q h s z =
+      let ea : question_in p' ≡ tried g lim =
+      ap (λ (y : Plant). record { plant = y; aim = p'.plant.aim }) h.plant ∙ ap (λ (y : Aim). record { plant = with_limits (question g).plant lim.line lim.low lim.high; aim = y }) (sym (tested_aim g.n g.aim g.lines.items p'.plant.aim h.tests)) in
       let w = settled p' o s h.settles in
-      let st : Settles (tried g k low high) o w.0 = subst (λ (a : Question). Settles a o w.0) ea w.1 in (
+      let st : Settles (tried g lim) o w.0 = subst (λ (a : Question). Settles a o w.0) ea w.1 in (
         w.0,
-        accepts q (Trial g k low high) (told.Tried o) w.0 (ap (λ (x : Result Aim Decline). passing x (test_trial (length g.lines.items) k low high)) h.tests ∙ h.trial_tests)
-            (o, refl, st, widening_derived q w.0 (tried g k low high) o (rightly_by p q p.state z.phase) st),
+        accepts q (Trial g lim) (told.Tried o) w.0 (ap (λ (x : Result Aim Decline). passing x (test_trial (length g.lines.items) lim.line lim.low lim.high)) h.tests ∙ h.trial_tests)
+            (o, refl, st, widening_derived q w.0 (tried g lim) o (rightly_by p q p.state z.phase) st),
         w.2,
       )
 

@@ -1,4 +1,5 @@
 -- What one call does, put together from its parts.
+use Rattle.plant.specs.declared.line.Trial as limits
 use Rattle.std.proofs.Common.{◌≡◌, ℕ, Bool, true, false, cond, IsOkAnd, MatchResult, Some, None, Ok, Err, Option, Result, refl, ap, ◌∙◌, subst, arith}
 use Rattle.law.proofs.Steps.{declines}
 use Rattle.law.specs.declared.script.Answer.{Answer}
@@ -26,7 +27,7 @@ use Rattle.runs.proofs.Done.{start_told, trial_told, work_told}
 abbrev pub Reading : Call → Type 0
 Reading (Start g) = ⊥
 Reading (Work k) = ⊥
-Reading (Trial g k low high) = ⊥
+Reading (Trial g t) = ⊥
 Reading Total = Unit {0}
 Reading (Flow k) = Unit {0}
 Reading (Cut side room) = Unit {0}
@@ -40,7 +41,7 @@ same_given g = record { n = refl; lines = refl; aim = refl }
 pub same_call : (c : Call) → SameCall c c
 same_call (Start g) = (g, refl, same_given g)
 same_call (Work k) = refl
-same_call (Trial g k low high) = (g, refl, same_given g)
+same_call (Trial g t) = (g, refl, same_given g)
 same_call Total = refl
 same_call (Flow k) = refl
 same_call (Cut side room) = refl
@@ -71,7 +72,7 @@ module _ {C : Type 0} (has : C → ℕ → Bool) (clears : C → C → Type 0) (
   reading_played : (p : Planner C) (c : Call) (a : Answer) → Reading c → Played has clears puts takes p c a p
   reading_played p (Start g) a n = absurd n
   reading_played p (Work k) a n = absurd n
-  reading_played p (Trial g k low high) a n = absurd n
+  reading_played p (Trial g t) a n = absurd n
   reading_played p Total a n = refl
   reading_played p (Flow k) a n = refl
   reading_played p (Cut side room) a n = refl
@@ -91,10 +92,10 @@ module _ {C : Type 0} (has : C → ℕ → Bool) (clears : C → C → Type 0) (
       → Works has clears puts takes k p r p' → Sound has p' → c ≡ Work k → c' ≡ Work k → a ≡ told_by (λ x. told.Worked x.0 x.1) r → Step p c a p' c'
   work_step p p' c c' k a r h s f f' e = rw (f, f', e) (record { sound = s; call = same_call (Work k); played = (r, refl, h); law = λ q z. work_told has clears puts takes k p p' r q h s z })
 
-  pub trial_step : (p p' : Planner C) (c c' : Call) (g g' : Given) (k low high : ℕ) (a : Answer) (r : Result Outcome Decline)
-      → Trials has clears puts takes g.n g.lines.items g.aim k low high p r p' → Sound has p' → c ≡ Trial g k low high → c' ≡ Trial g' k low high → SameGiven g g' → a ≡ told_by (λ x. told.Tried x) r
+  pub trial_step : (p p' : Planner C) (c c' : Call) (g g' : Given) (lim : limits.Trial) (a : Answer) (r : Result Outcome Decline)
+      → Trials has clears puts takes g.n g.lines.items g.aim lim.line lim.low lim.high p r p' → Sound has p' → c ≡ Trial g lim → c' ≡ Trial g' lim → SameGiven g g' → a ≡ told_by (λ x. told.Tried x) r
       → Step p c a p' c'
-  trial_step p p' c c' g g' k low high a r h s f f' same e = rw (f, f', e) (record { sound = s; call = (g', refl, same); played = (r, refl, h); law = λ q z. trial_told has clears puts takes g k low high p p' r q h s z })
+  trial_step p p' c c' g g' lim a r h s f f' same e = rw (f, f', e) (record { sound = s; call = (g', refl, same); played = (r, refl, h); law = λ q z. trial_told has clears puts takes g lim p p' r q h s z })
 
   -- what the state declines, the law declines
   flow_refused : (p : Planner C) (q : Phase) (d : Decline) (on : Question → Plan → Option Decline) (m : State) → InPhase m p q → test_flow m ≡ Some d → Refusal.test_flow q on ≡ Some d
@@ -124,7 +125,7 @@ module _ {C : Type 0} (has : C → ℕ → Bool) (clears : C → C → Type 0) (
       by false i h =
           let same : NothingInWork ≡ d = cc in
           work_step p p (Work k) (Work k) k (told.Declined d) (Err d) (subst (λ (x : Decline). WorkFails has clears puts takes k p x) same (nothing i), refl) s refl refl refl
-  turn_step p (Trial g k low high) d s e = absurd (let z : ◌≡◌ {A = ℕ} 0 1 = cc in omega arith)
+  turn_step p (Trial g t) d s e = absurd (let z : ◌≡◌ {A = ℕ} 0 1 = cc in omega arith)
   turn_step p Total d s e = refused_step p Total d s tt (λ q ph. flow_refused p q d _ p.state ph e)
   turn_step p (Flow k) d s e = refused_step p (Flow k) d s tt (λ q ph. flow_refused p q d _ p.state ph e)
   turn_step p (Cut side room) d s e = refused_step p (Cut side room) d s tt (λ q ph. flow_refused p q d _ p.state ph e)

@@ -2,12 +2,13 @@
 use Rattle.std.proofs.Common.{◌≡◌, ℕ, ◌<◌, ◌≤◌, min, Bool, true, false, ltb, leb, List, ◌++◌, length, get_or, take, drop, ℤ, None, Ok, Err, Result, Vec, sym, refl, ap, ◌∙◌, subst, ◌⊎◌, inl, inr, arith}
 use mathlib.Core.Path.{fun_ext}
 use Rattle.cuts.proofs.Bests.{far_same, near_same}
+use Rattle.cuts.proofs.Hurdles.{worst_same}
 use Rattle.law.specs.declared.script.Answer.{Answer}
 use Rattle.law.specs.declared.script.Answer.TheVariants as told
-use Rattle.law.specs.declared.script.Call.TheVariants.{Crossing, Cut, Flow, Tallies, Total}
+use Rattle.law.specs.declared.script.Call.TheVariants.{Crossing, Cut, Flow, Hurdle, Tallies, Total}
 use Rattle.law.specs.Law.{Decided, Follows}
 use Rattle.law.specs.Refusal as Refusal
-use Rattle.law.specs.Phases.{Counts, Phase, Plan, Question, Solved, cut_of, flowing}
+use Rattle.law.specs.Phases.{Counts, Phase, Plan, Question, Solved, cut_of, flowing, blocked, Impossible}
 use Rattle.planner.specs.declared.answer.Side.{Side}
 use Rattle.planner.specs.declared.answer.Side.TheVariants.{Far, Near}
 use Rattle.planner.specs.declared.answer.Tally.{Tally}
@@ -15,7 +16,7 @@ use Rattle.planner.specs.declared.machine.Planner.{Planner}
 use Rattle.planner.specs.declared.machine.State.{State}
 use Rattle.planner.specs.declared.machine.State.TheVariants.{Idle, SettledFlow, SettledImpossible, StageOne, StageTwo}
 use Rattle.planner.specs.Cuts.{Extreme}
-use Rattle.planner.specs.Readings.{CrossingSeen, CutSeen, CutShown, Filled, Lending, Listed, Unless, flow_answer, test_flow, total_answer}
+use Rattle.planner.specs.Readings.{CrossingSeen, CutSeen, CutShown, Filled, HurdleSeen, HurdleShown, Lending, Listed, Unless, flow_answer, test_flow, test_hurdle, total_answer}
 use Rattle.planner.specs.Standing.{Sound, Stand, arcs_in, plant_in, stage_in}
 use Rattle.planner.specs.Tallies.{no_tally}
 use Rattle.planner.specs.Views.{View, view}
@@ -136,6 +137,26 @@ cut_last p side room b set s t false k solved h =
       ap (λ (x : List ℕ). told.Cut x (size S n) (plants.bound p.aim p.plant S)) w ∙ ap (λ (R : Junctions). told.Cut (set_bytes R) (size R n) (plants.bound p.aim p.plant R)) e,
     )
 
+hurdle_last : (p : View) (room : ℕ) (b : Lending (ℕ × ℕ)) (set : List ℕ) (H : Junctions) (t : Counts) (f : Bool)
+    → (f ≡ false → (length b.before ≤ 32) × (b.after ≡ set)) → Impossible (record { plant = p.plant; aim = p.aim }) H
+    → Unless b (test BufferLength f None) ((S : Junctions) × HurdleShown p S × Filled b 32 (set_bytes S) (size S p.plant.junctions, plants.shortfall_over p.plant.lines S))
+    → Decided (test BufferLength f None) (blocked (record { plant = p.plant; aim = p.aim }) H t) (Hurdle room) (told_by (λ x. told.Hurdle set x.0 x.1) b.answer) (blocked (record { plant = p.plant; aim = p.aim }) H t)
+hurdle_last p room b set H t true k none h = rw h.0 (refl, refl)
+hurdle_last p room b set H t false k none h =
+    let a : Question = record { plant = p.plant; aim = p.aim } in
+    let n = p.plant.junctions in
+    let S = h.0 in
+    let e : S ≡ H = fun_ext (worst_same p.plant S H h.1.worst none.worst) in
+    let w = whole b.before b.after set (set_bytes S) (k refl).0 (k refl).1 h.2.1 in
+    rw h.2.0 (
+      refl,
+      a,
+      H,
+      t,
+      refl,
+      ap (λ (x : List ℕ). told.Hurdle x (size S n) (plants.shortfall p.plant S)) w ∙ ap (λ (R : Junctions). told.Hurdle (set_bytes R) (size R n) (plants.shortfall p.plant R)) e,
+    )
+
 -- the numbers that stand in the front of a buffer
 abbrev pub Numbers : Lending ℕ → Result ℕ Decline → Answer → Type 0
 Numbers b (Ok m) r = (v : Vec ℕ Global) × (r ≡ told.Crossing v) × (v.items ≡ take m b.after)
@@ -181,6 +202,23 @@ module _ {C : Type 0} (has : C → ℕ → Bool) where
   pub cut_told : (p : Planner C) (q : Phase) (side : Side) (room : ℕ) (b : Lending (ℕ × ℤ)) (set : List ℕ) → Shows has p q → Lent room b set → CutSeen (view p) side b
       → Follows q (Cut side room) (told_by (λ x. told.Cut set x.0 x.1) b.answer) q
   cut_told p q side room b set s k h = cut_by p q side room b set p.state s.phase k h
+
+  hurdle_by : (p : Planner C) (q : Phase) (room : ℕ) (b : Lending (ℕ × ℕ)) (set : List ℕ) (m : State) → InPhase m p q → Lent room b set
+      → Unless b (first_of (test_hurdle m) (test BufferLength (ltb (length b.before) 32) None))
+      ((S : Junctions) × HurdleShown (view p) S × Filled b 32 (set_bytes S) (size S (plant_in p).junctions, plants.shortfall_over (plant_in p).lines S))
+      → Follows q (Hurdle room) (told_by (λ x. told.Hurdle set x.0 x.1) b.answer) q
+  hurdle_by p q room b set Idle ph k h = rw (ph, h.0) (refl, refl)
+  hurdle_by p q room b set StageOne ph k h = rw (ph, h.0) (refl, refl)
+  hurdle_by p q room b set StageTwo ph k h = rw (ph, h.0) (refl, refl)
+  hurdle_by p q room b set SettledFlow ph k h = rw (ph.1, h.0) (refl, refl)
+  hurdle_by p q room b set SettledImpossible ph k h =
+      rw ph.1
+      (hurdle_last (view p) room b set ph.0 (counts_in p) (ltb room 32) k.1 ph.2
+      (subst (λ (f : Bool). Unless b (test BufferLength f None) ((S : Junctions) × HurdleShown (view p) S × Filled b 32 (set_bytes S) (size S (plant_in p).junctions, plants.shortfall_over (plant_in p).lines S))) k.0 h))
+
+  pub hurdle_told : (p : Planner C) (q : Phase) (room : ℕ) (b : Lending (ℕ × ℕ)) (set : List ℕ) → Shows has p q → Lent room b set → HurdleSeen (view p) b
+      → Follows q (Hurdle room) (told_by (λ x. told.Hurdle set x.0 x.1) b.answer) q
+  hurdle_told p q room b set s k h = hurdle_by p q room b set p.state s.phase k h
 
   crossing_by : (p : Planner C) (q : Phase) (side : Side) (room : ℕ) (b : Lending ℕ) (r : Answer) (m : State) → InPhase m p q → length b.before ≡ room → Numbers b b.answer r
       → Unless b (test_flow m) ((S : Junctions) × CutShown (view p) side S × Listed b (plants.crossing S 0 (plant_in p).lines))

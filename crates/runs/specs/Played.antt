@@ -18,7 +18,7 @@ use Rattle.plant.specs.declared.decline.Decline.{Decline}
 abbrev pub out_of_turn : State → Call → Option Decline
 out_of_turn m (Start g) = None
 out_of_turn m (Work k) = cond (in_work m) None (Some NothingInWork)
-out_of_turn m (Trial g k low high) = None
+out_of_turn m (Trial g t) = None
 out_of_turn m Total = test_flow m
 out_of_turn m (Flow k) = test_flow m
 out_of_turn m (Cut side room) = test_flow m
@@ -36,7 +36,7 @@ module _ {C : Type 0} (has : C → ℕ → Bool) (clears : C → C → Type 0) (
   abbrev pub Played : Planner C → Call → Answer → Planner C → Type 0
   Played p (Start g) r p' = (s : Result (Unit {0}) Decline) × (r ≡ told_by (λ _. told.Started) s) × Starts has clears puts takes g.n g.lines.items g.aim p s p'
   Played p (Work k) r p' = (s : Result (Outcome × ℕ) Decline) × (r ≡ told_by (λ x. told.Worked x.0 x.1) s) × Works has clears puts takes k p s p'
-  Played p (Trial g k low high) r p' = (s : Result Outcome Decline) × (r ≡ told_by (λ x. told.Tried x) s) × Trials has clears puts takes g.n g.lines.items g.aim k low high p s p'
+  Played p (Trial g t) r p' = (s : Result Outcome Decline) × (r ≡ told_by (λ x. told.Tried x) s) × Trials has clears puts takes g.n g.lines.items g.aim t.line t.low t.high p s p'
   Played p Total r p' = p' ≡ p
   Played p (Flow k) r p' = p' ≡ p
   Played p (Cut side room) r p' = p' ≡ p
@@ -63,7 +63,7 @@ pub record SameGiven (g h : Given) : Type 0 where
 abbrev pub SameCall : Call → Call → Type 0
 SameCall (Start g) d = (h : Given) × (d ≡ Start h) × SameGiven g h
 SameCall (Work k) d = d ≡ Work k
-SameCall (Trial g k low high) d = (h : Given) × (d ≡ Trial h k low high) × SameGiven g h
+SameCall (Trial g t) d = (h : Given) × (d ≡ Trial h t) × SameGiven g h
 SameCall Total d = d ≡ Total
 SameCall (Flow k) d = d ≡ Flow k
 SameCall (Cut side room) d = d ≡ Cut side room

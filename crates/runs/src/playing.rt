@@ -8,7 +8,7 @@ ghost use Rattle.runs.specs.Shows.{Lawful, Reads};
 use chooser::Chooser;
 use law::{Answer, Call};
 use planner::{Outcome, Planner, Side, State};
-use plant::{Decline, Trial};
+use plant::Decline;
 use std::alloc::{AllocError, Global};
 
 // By which test the state declines a call, if it does.
@@ -101,20 +101,9 @@ pub fn play<C: Chooser>(
         Call::Work(number) => planner
             .work(*number)
             .map(|(outcome, made)| Answer::Worked { outcome, made }),
-        Call::Trial {
-            given,
-            line,
-            low,
-            high,
-        } => {
-            let trial = Trial {
-                line: *line,
-                low: *low,
-                high: *high,
-            };
-            planner
-                .trial(given.n, &mut given.lines, given.aim, trial)
-                .map(Answer::Tried)
+        Call::Trial { given, trial } => {
+            let tried = planner.trial(given.n, &mut given.lines, given.aim, *trial);
+            tried.map(Answer::Tried)
         }
         Call::Total => planner.total().map(Answer::Total),
         Call::Flow(line) => planner.flow(*line).map(Answer::Flow),

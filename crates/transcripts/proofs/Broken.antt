@@ -74,7 +74,7 @@ not_another_shortfall v m d e law =
     omega (arith, worst.largest ends_only known.2.hurdle, known.2.largest x.0 worst.hurdle, known.3)
 
 -- plant B: the line leads from near to beyond far
-wide_B : (v : Lines) → v.items ≡ B_lines → Widens (question (given 2 v 1)) 0 (tried (given 2 v 1) 0 4 10)
+wide_B : (v : Lines) → v.items ≡ B_lines → Widens (question (given 2 v 1)) 0 (tried (given 2 v 1) (record { line = 0; low = 4; high = 10 }))
 wide_B v e = subst (λ (ls : List Line). Widens (on 2 Greatest ls) 0 (record { plant = with_limits (record { junctions = 2; lines = ls }) 0 4 10; aim = Greatest })) (sym e)
     (record { limit = 10; inside = omega arith; wider = omega arith; aim = refl; plant = refl })
 
@@ -86,7 +86,7 @@ unfolding member bit
 not_a_total_that_stays v m e law =
     let piece : Script = (Work 60000, told.Worked outcome.Flow m) ∷ (Cut Far 32, told.Cut (bytes 1) 1 (pos 9)) ∷ (Total, told.Total (pos 9)) ∷ (Cut Near 32, told.Cut (bytes 1) 1 (pos 9)) ∷ [] in
     let later : Script = (Work 5, told.Declined bad.NothingInWork) ∷ (Total, told.Total (pos 9)) ∷ [] in
-    let x = (law_promises _ law).widening_totals ((Start (given 2 v 1), told.Started) ∷ []) piece later [] (question (given 2 v 1)) 0 (pos 9) (pos 9) (bytes 1) (bytes 1) 1 1 (pos 9) (pos 9) 32 32 (given 2 v 1) 0 4 10 outcome.Flow
+    let x = (law_promises _ law).widening_totals ((Start (given 2 v 1), told.Started) ∷ []) piece later [] (question (given 2 v 1)) 0 (pos 9) (pos 9) (bytes 1) (bytes 1) 1 1 (pos 9) (pos 9) 32 32 (given 2 v 1) (record { line = 0; low = 4; high = 10 }) outcome.Flow
     refl refl refl refl (inr (inr (inl refl))) (inr (inr (inr (inl refl)))) (inr (inl refl)) (wide_B v e) (inr (inl refl)) in
     x.0 refl (subst (λ (l : Line). member (bytes 1) l.from ≡ true) (line_is v e) refl, subst (λ (l : Line). member (bytes 1) l.to ≡ false) (line_is v e) refl)
 

@@ -1,4 +1,5 @@
 -- The transcripts that obey the law, step by step.
+use Rattle.plant.specs.declared.line.Trial as limits
 use Rattle.std.proofs.Common.{◌≡◌, ℕ, ◌+◌, ◌*◌, ◌<◌, List, [], ◌∷◌, length, drop, None, sym, refl, ap, subst, inl, inr, arith}
 use Rattle.cuts.specs.Examples.{ends_only}
 use Rattle.first.specs.Theorems.{uneven}
@@ -30,16 +31,16 @@ on n aim ls = record { plant = record { junctions = n; lines = ls }; aim = aim }
 pub start_passes : (p : Phase) (n a : ℕ) (v : Lines) (ls : List Line) → v.items ≡ ls → passing (tested n ls a) None ≡ None → refusal p (Start (given n v a)) ≡ None
 start_passes p n a v ls e t = subst (λ (ms : List Line). passing (tested n ms a) None ≡ None) (sym e) t
 
-trial_passes : (p : Phase) (n a k low high : ℕ) (v : Lines) (ls : List Line) → v.items ≡ ls → passing (tested n ls a) (test_trial (length ls) k low high) ≡ None → refusal p (Trial (given n v a) k low high) ≡ None
-trial_passes p n a k low high v ls e t = subst (λ (ms : List Line). passing (tested n ms a) (test_trial (length ms) k low high) ≡ None) (sym e) t
+trial_passes : (p : Phase) (n a : ℕ) (lim : limits.Trial) (v : Lines) (ls : List Line) → v.items ≡ ls → passing (tested n ls a) (test_trial (length ls) lim.line lim.low lim.high) ≡ None → refusal p (Trial (given n v a) lim) ≡ None
+trial_passes p n a lim v ls e t = subst (λ (ms : List Line). passing (tested n ms a) (test_trial (length ms) lim.line lim.low lim.high) ≡ None) (sym e) t
 
 starts : (p : Phase) (n a : ℕ) (v : Lines) (b : Question) → refusal p (Start (given n v a)) ≡ None → b ≡ question (given n v a) → Follows p (Start (given n v a)) told.Started (working b 0 no_counts)
 starts p n a v b t e = accepts p (Start (given n v a)) told.Started (working b 0 no_counts) t (refl, ap (λ (c : Question). working c 0 no_counts) e)
 
-tries : (p q : Phase) (g : Given) (k low high : ℕ) (b : Question) (o : Outcome) → refusal p (Trial g k low high) ≡ None → b ≡ tried g k low high → Rightly p → Settles b o q → Follows p (Trial g k low high) (told.Tried o) q
-tries p q g k low high b o t e right s =
+tries : (p q : Phase) (g : Given) (lim : limits.Trial) (b : Question) (o : Outcome) → refusal p (Trial g lim) ≡ None → b ≡ tried g lim → Rightly p → Settles b o q → Follows p (Trial g lim) (told.Tried o) q
+tries p q g lim b o t e right s =
     let s' = subst (λ (c : Question). Settles c o q) e s in
-    accepts p (Trial g k low high) (told.Tried o) q t (o, refl, s', widening_derived p q (tried g k low high) o right s')
+    accepts p (Trial g lim) (told.Tried o) q t (o, refl, s', widening_derived p q (tried g lim) o right s')
 
 -- where a flow is settled, it is rightly settled
 right_flow : (a : Question) (s : Plan) (t : Counts) → Sound a.plant → Solved a s → Rightly (flowing a s t)
@@ -102,7 +103,7 @@ D_reads v w e f = (
                   (refl, refl),
                   (
                     at_D',
-                    tries at_D at_D' (given 3 v 1) 0 0 4 D' outcome.Flow (trial_passes at_D 3 1 0 0 4 v D_lines e refl) (ap (λ (ls : List Line). record { plant = with_limits (record { junctions = 3; lines = ls }) 0 0 4; aim = Greatest }) (sym e))
+                    tries at_D at_D' (given 3 v 1) (record { line = 0; low = 0; high = 4 }) D' outcome.Flow (trial_passes at_D 3 1 (record { line = 0; low = 0; high = 4 }) v D_lines e refl) (ap (λ (ls : List Line). record { plant = with_limits (record { junctions = 3; lines = ls }) 0 0 4; aim = Greatest }) (sym e))
                         (right_flow D D_plan (counts 0 0 1 2) D_sound D_solved) (D'_plan, counts 0 0 2 3, refl, D'_solved, D'_limited),
                     (
                       at_D',
@@ -231,7 +232,7 @@ h_obeys v w e f = (
               (refl, refl),
               (
                 at_H',
-                tries at_H at_H' (given 3 v 1) 0 0 3 H' outcome.Flow (trial_passes at_H 3 1 0 0 3 v H_lines e refl) (ap (λ (ls : List Line). record { plant = with_limits (record { junctions = 3; lines = ls }) 0 0 3; aim = Greatest }) (sym e))
+                tries at_H at_H' (given 3 v 1) (record { line = 0; low = 0; high = 3 }) H' outcome.Flow (trial_passes at_H 3 1 (record { line = 0; low = 0; high = 3 }) v H_lines e refl) (ap (λ (ls : List Line). record { plant = with_limits (record { junctions = 3; lines = ls }) 0 0 3; aim = Greatest }) (sym e))
                     (right_blocked H ends_only (counts 9 17 0 0)) (H'_plan, counts 3 6 0 0, refl, H'_solved, H'_limited),
                 (
                   at_H',
@@ -314,7 +315,7 @@ b_obeys v e = (
             (refl, least_of 4, least_plan 4, counts 2 4 0 0, refl, refl),
             (
               at_B 3,
-              tries (at_B 4) (at_B 3) (given 2 v 2) 0 3 9 (least_of 3) outcome.Flow (trial_passes (at_B 4) 2 2 0 3 9 v B_lines e refl) (ap (λ (ls : List Line). record { plant = with_limits (record { junctions = 2; lines = ls }) 0 3 9; aim = Least }) (sym e))
+              tries (at_B 4) (at_B 3) (given 2 v 2) (record { line = 0; low = 3; high = 9 }) (least_of 3) outcome.Flow (trial_passes (at_B 4) 2 2 (record { line = 0; low = 3; high = 9 }) v B_lines e refl) (ap (λ (ls : List Line). record { plant = with_limits (record { junctions = 2; lines = ls }) 0 3 9; aim = Least }) (sym e))
                   (right_flow (least_of 4) (least_plan 4) (counts 2 4 0 0) (least_sound 4 (omega arith)) (least_solved 4 (omega arith))) (least_plan 3, counts 2 4 0 0, refl, least_solved 3 (omega arith), B_limited 3 2 4 (omega arith) (omega arith)),
               (
                 at_B 3,

@@ -50,7 +50,7 @@ NotATotalThatStays = (v : Lines) (m : ℕ) → v.items ≡ B_lines →
     ∷ (Cut Far 32, told.Cut (bytes 1) 1 (pos 9))
     ∷ (Total, told.Total (pos 9))
     ∷ (Cut Near 32, told.Cut (bytes 1) 1 (pos 9))
-    ∷ (Trial (given 2 v 1) 0 4 10, told.Tried outcome.Flow)
+    ∷ (Trial (given 2 v 1) (record { line = 0; low = 4; high = 10 }), told.Tried outcome.Flow)
     ∷ (Work 5, told.Declined bad.NothingInWork)
     ∷ (Total, told.Total (pos 9))
     ∷ []) → ⊥

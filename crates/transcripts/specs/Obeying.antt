@@ -28,7 +28,7 @@ D_script v w =
     ∷ (Cut Far 32, told.Cut (bytes 5) 2 (pos 3))
     ∷ (Crossing Far 1, told.Crossing w)
     ∷ (Tallies, told.Tallies (tally 0 0) (tally 1 2))
-    ∷ (Trial (given 3 v 1) 0 0 4, told.Tried outcome.Flow)
+    ∷ (Trial (given 3 v 1) (record { line = 0; low = 0; high = 4 }), told.Tried outcome.Flow)
     ∷ (Total, told.Total (pos 3))
     ∷ (Tallies, told.Tallies (tally 0 0) (tally 2 3))
     ∷ (Hurdle 32, told.Declined bad.NoHurdle)
@@ -46,7 +46,7 @@ H_script v w =
     ∷ (Hurdle 31, told.Declined bad.BufferLength)
     ∷ (Hurdle 32, told.Hurdle (bytes 3) 2 1)
     ∷ (Tallies, told.Tallies (tally 9 17) (tally 0 0))
-    ∷ (Trial (given 3 v 1) 0 0 3, told.Tried outcome.Flow)
+    ∷ (Trial (given 3 v 1) (record { line = 0; low = 0; high = 3 }), told.Tried outcome.Flow)
     ∷ (Total, told.Total (pos 3))
     ∷ (Crossing Near 0, told.Declined bad.BufferLength)
     ∷ (Crossing Near 1, told.Crossing w)
@@ -64,7 +64,7 @@ B_script v =
     ∷ (Work 60000, told.Worked outcome.Flow 3)
     ∷ (Total, told.Total (pos 4))
     ∷ (Cut Far 32, told.Cut (bytes 1) 1 (pos 4))
-    ∷ (Trial (given 2 v 2) 0 3 9, told.Tried outcome.Flow)
+    ∷ (Trial (given 2 v 2) (record { line = 0; low = 3; high = 9 }), told.Tried outcome.Flow)
     ∷ (Total, told.Total (pos 3))
     ∷ []
 

@@ -44,8 +44,8 @@ returns g c =
           let after = w.trial-tried.new.lines in
           let back : after ≡ items = w.trial-tried.ensures.back ∙ w.deref_mut.ensures.value in
           let whole : take given.lines.len (after ++ drop (length after) items) ≡ items = with_items_is given.lines after (w.trial-tried.auto.lines ∙ w.deref_mut.ensures.len) ∙ back in
-          let tried = subst (λ (ls : List Line). Trials g.C.Chooser.has g.C.Chooser.clears g.C.Chooser.puts g.C.Chooser.takes given.n ls given.aim w.in-Trial.line w.in-Trial.low w.in-Trial.high p w.trial-tried.result w.trial-tried.new.self) w.deref_mut.ensures.value w.trial-tried.ensures.trials in
-          rw w.planner-is (trial_step _ _ _ _ p w.trial-tried.new.self d d' given (record { n = given.n; lines = with_items given.lines after; aim = given.aim }) w.in-Trial.line w.in-Trial.low w.in-Trial.high (answered m) w.trial-tried.result tried w.trial-tried.ensures.sound w.in-Trial.is w.call-is (record { n = refl; lines = whole; aim = refl }) (ap answered w.answer-is ∙ told_is {A = Outcome} (λ x. told.Tried x) _ _ w.map-answer-in-Trial.result w.map-answer-in-Trial.ensures.cases (λ x a k. search rules)))
+          let tried = subst (λ (ls : List Line). Trials g.C.Chooser.has g.C.Chooser.clears g.C.Chooser.puts g.C.Chooser.takes given.n ls given.aim w.in-Trial.trial.line w.in-Trial.trial.low w.in-Trial.trial.high p w.trial-tried.result w.trial-tried.new.self) w.deref_mut.ensures.value w.trial-tried.ensures.trials in
+          rw w.planner-is (trial_step _ _ _ _ p w.trial-tried.new.self d d' given (record { n = given.n; lines = with_items given.lines after; aim = given.aim }) w.in-Trial.trial (answered m) w.trial-tried.result tried w.trial-tried.ensures.sound w.in-Trial.is w.call-is (record { n = refl; lines = whole; aim = refl }) (ap answered w.answer-is ∙ told_is {A = Outcome} (λ x. told.Tried x) _ _ w.map-answer-in-Trial.result w.map-answer-in-Trial.ensures.cases (λ x a k. search rules)))
       | in-Total w ↦
           let e : answered w.map-answer-in-Total.result ≡ told_by (λ x. told.Total x) w.total.result = told_is {A = ℤ} (λ x. told.Total x) _ _ w.map-answer-in-Total.result w.map-answer-in-Total.ensures.cases (λ x a k. search rules) in
           read_step _ _ _ _ p p' d d' Total m _ c.requires w.planner-is w.in-Total.is (w.call-is ∙ w.in-Total.is) tt w.answer-is (rw e (λ q s. total_told g.C.Chooser.has p q w.total.result s w.total.ensures.answer))
