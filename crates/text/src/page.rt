@@ -1,0 +1,11 @@
+ghost use Rattle.std.specs.Prelude.{◌≤◌, length};
+
+pub mod calls;
+
+/// The caller's buffer, and how far it is written: from the front on, one piece of text after another.
+#[derive(Drop)]
+pub struct Page<'a> {
+    out: &'a mut [u8],
+    at: usize,
+    ghost within: { at ≤ length out.now },
+}
