@@ -1,81 +1,47 @@
 //! Writes a plant file: N with the number of junctions, all lines, all trials, the aim.
-ghost use Rattle.std.specs.Prelude.{◌≡◌, ◌+◌, ◌*◌, ◌≤◌, length};
+ghost use Rattle.std.specs.Prelude.{◌≡◌, ◌≤◌, length};
 ghost use Rattle.plant.specs.Tests.{pass};
-ghost use Rattle.plantfile.specs.Writing.{aim_byte, encoded, Laid, line_bytes, Puts, test_trials, trial_bytes, written};
-ghost use Rattle.std.specs.List.{flat_map};
+ghost use Rattle.plantfile.specs.Writing.{command_bytes, encoded, Laid, test_trials, written};
+ghost use Rattle.text.specs.Pieces.{Adds, room};
 
-use super::reader::{COMMAND_LEN, MAX_TRIALS, Trial};
+use super::reader::{COMMAND_LEN, Command, MAX_TRIALS, Trial};
 use plant::{Aim, Decline, Line, test_plant, test_trial};
+use text::Page;
 
-// Bytes into the buffer from `at` on; answers where they end.
-fn put(out: &mut [u8], at: usize, bytes: &[u8]) -> usize
-    requires { at + length bytes.now ≤ length out.old }
-    ensures { Puts bytes.now out.old at result out.new }
+// One command.
+fn put_command(page: &mut Page<'_>, command: &Command)
+    requires { length (command_bytes command.now) ≤ room page.old }
+    ensures { Adds (command_bytes command.now) page.old page.new }
 {
-    let end = at + bytes.len();
-    out[at..end].copy_from_slice(bytes);
-    end
-}
-
-fn put_line(out: &mut [u8], at: usize, line: &Line) -> usize
-    requires { at + 11 ≤ length out.old }
-    ensures { Puts (line_bytes line.now) out.old at result out.new }
-{
-    let at = put(out, at, &[b'L', line.from, line.to]);
-    let at = put(out, at, &line.low.to_be_bytes());
-    put(out, at, &line.high.to_be_bytes())
-}
-
-fn put_trial(out: &mut [u8], at: usize, trial: &Trial) -> usize
-    requires { at + 11 ≤ length out.old }
-    ensures { Puts (trial_bytes trial.now) out.old at result out.new }
-{
-    let at = put(out, at, &[b'T']);
-    let at = put(out, at, &trial.line.to_be_bytes());
-    let at = put(out, at, &trial.low.to_be_bytes());
-    put(out, at, &trial.high.to_be_bytes())
-}
-
-fn put_lines(out: &mut [u8], start: usize, lines: &[Line]) -> usize
-    requires { start + 11 * length lines.now ≤ length out.old }
-    ensures { Puts (flat_map line_bytes lines.now) out.old start result out.new }
-{
-    let mut at = start;
-    for line in lines {
-        at = put_line(out, at, line);
-    }
-    at
-}
-
-fn put_trials(out: &mut [u8], start: usize, trials: &[Trial]) -> usize
-    requires { start + 11 * length trials.now ≤ length out.old }
-    ensures { Puts (flat_map trial_bytes trials.now) out.old start result out.new }
-{
-    let mut at = start;
-    for trial in trials {
-        at = put_trial(out, at, trial);
-    }
-    at
-}
-
-fn aim_letter(aim: Aim) -> u8
-    ensures { result ≡ aim_byte aim }
-{
-    match aim {
-        Aim::Greatest => b'G',
-        Aim::Least => b'M',
+    match command {
+        Command::Draw(line) => {
+            page.put(&[b'L', line.from, line.to]);
+            page.put(&line.low.to_be_bytes());
+            page.put(&line.high.to_be_bytes());
+        }
+        Command::Try(trial) => {
+            page.put(b"T");
+            page.put(&trial.line.to_be_bytes());
+            page.put(&trial.low.to_be_bytes());
+            page.put(&trial.high.to_be_bytes());
+        }
+        Command::End(Aim::Greatest) => page.put(b"G"),
+        Command::End(Aim::Least) => page.put(b"M"),
     }
 }
 
-// The whole file, which has room.
-fn put_file(n: u8, lines: &[Line], trials: &[Trial], aim: Aim, out: &mut [u8]) -> usize
-    requires { 3 + 11 * (length lines.now + length trials.now) ≤ length out.old }
-    ensures { Puts (encoded (record { junctions = n; lines = lines.now; trials = trials.now; aim = aim })) out.old 0 result out.new }
+// The whole file.
+fn put_file(page: &mut Page<'_>, n: u8, lines: &[Line], trials: &[Trial], aim: Aim)
+    requires { length (encoded (record { junctions = n; lines = lines.now; trials = trials.now; aim = aim })) ≤ room page.old }
+    ensures { Adds (encoded (record { junctions = n; lines = lines.now; trials = trials.now; aim = aim })) page.old page.new }
 {
-    let at = put(out, 0, &[b'N', n]);
-    let at = put_lines(out, at, lines);
-    let at = put_trials(out, at, trials);
-    put(out, at, &[aim_letter(aim)])
+    let draws = lines.iter().map(|line| Command::Draw(*line));
+    let tries = trials.iter().map(|trial| Command::Try(*trial));
+    page.put(&[b'N', n]);
+    for command in draws.chain(tries) {
+        put_command(page, &command);
+    }
+    put_command(page, &Command::End(aim));
 }
 
 // The tests of the trials on a list of `count` lines: how many, then each in order.
@@ -109,5 +75,7 @@ pub fn write_file(
     if out.len() < len {
         return Err(Decline::BufferLength);
     }
-    Ok(put_file(n, lines, trials, aim, out))
+    let mut page = Page::new(out);
+    put_file(&mut page, n, lines, trials, aim);
+    Ok(page.len())
 }
