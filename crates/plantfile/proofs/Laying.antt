@@ -9,7 +9,7 @@ use Rattle.plant.specs.declared.decline.Decline.TheVariants.{BufferLength, Trial
 use Rattle.plant.specs.declared.line.Line.{Line}
 use Rattle.plantfile.specs.declared.reader.Trial.{Trial}
 use Rattle.plantfile.specs.Writing.{Laid, aim_byte, encoded, line_bytes, test_each, test_trials, then_test, trial_bytes, written}
-use Rattle.plantfile.proofs.Paste.{length_pieces}
+use Rattle.plantfile.proofs.Commands.{length_pieces}
 use Rattle.text.specs.Pieces.{Puts}
 use Rattle.text.proofs.Paste.{pasted_start}
 

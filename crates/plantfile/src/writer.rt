@@ -1,7 +1,9 @@
 //! Writes a plant file: N with the number of junctions, all lines, all trials, the aim.
-ghost use Rattle.std.specs.Prelude.{◌≡◌, ◌≤◌, length};
+ghost use Rattle.std.specs.Prelude.{◌≡◌, ◌≤◌, List, length};
 ghost use Rattle.plant.specs.Tests.{pass};
-ghost use Rattle.plantfile.specs.Writing.{command_bytes, encoded, Laid, test_trials, written};
+ghost use Rattle.plantfile.specs.Writing.{command_bytes, encoded, Laid, test_each, test_trials, written};
+ghost use Rattle.plantfile.specs.declared.reader.Trial.{Trial};
+ghost use Rattle.std.specs.Iterator.{AlwaysYields, IsFinite};
 ghost use Rattle.text.specs.Pieces.{Adds, room};
 
 use super::reader::{COMMAND_LEN, Command, MAX_TRIALS, Trial};
@@ -44,6 +46,18 @@ fn put_file(page: &mut Page<'_>, n: u8, lines: &[Line], trials: &[Trial], aim: A
     put_command(page, &Command::End(aim));
 }
 
+/// The tests of trials on a list of `count` lines: each in order, up to the first that fails.
+pub fn test_each<I: Iterator<Item = Trial> + Drop>(count: usize, trials: I) -> Result<(), Decline>
+    requires can { I.can_next trials }
+    requires ends { IsFinite (I.remaining trials) }
+    ensures { (all : List Trial) → AlwaysYields I.next_gives (λ t. t) trials all → result ≡ pass (test_each count all) }
+{
+    for trial in trials {
+        test_trial(count, trial.line, trial.low, trial.high)?;
+    }
+    Ok(())
+}
+
 // The tests of the trials on a list of `count` lines: how many, then each in order.
 fn test_trials(count: usize, trials: &[Trial]) -> Result<(), Decline>
     ensures { result ≡ pass (test_trials count trials.now) }
@@ -51,10 +65,7 @@ fn test_trials(count: usize, trials: &[Trial]) -> Result<(), Decline>
     if trials.len() > MAX_TRIALS {
         return Err(Decline::TrialCount);
     }
-    for trial in trials {
-        test_trial(count, trial.line, trial.low, trial.high)?;
-    }
-    Ok(())
+    test_each(count, trials.iter().copied())
 }
 
 /// Writes the file of a plant that passes the tests, with trials that pass theirs, to the front of `out`, and answers

@@ -5,7 +5,8 @@ use Rattle.std.proofs.lemmas.Iterator.{YieldsList-from_map, YieldsList-from_slic
 use Rattle.std.proofs.lemmas.Iterator.Consumers.{YieldsList-from_chain}
 use Rattle.plantfile.specs.declared.reader.Command.TheVariants.{Draw, Try}
 use Rattle.plantfile.specs.Writing.{command_bytes}
-use Rattle.plantfile.proofs.Paste.{at_end, at_turn, drawn_tried, encoded_is, length_encoded}
+use Rattle.plantfile.proofs.Commands.{drawn_tried, encoded_is, length_encoded}
+use Rattle.plantfile.proofs.Turns.{at_end, fits_turn}
 use Rattle.text.specs.Pieces.{Adds}
 use Rattle.text.proofs.Paste.{adds_nothing, then_adds}
 use Rattle.plantfile.proofs.writer.put_file.Goals as goal
@@ -17,7 +18,7 @@ pub put_command-requires : goal.put_command-requires
 put_command-requires c =
     let ls = c.args.lines.now in
     let ts = c.args.trials.now in
-    let t = at_turn (drawn_tried ls ts) c.loop-command.yielded _ c.loop-command.yielded_by _ _ c.in-Some.command c.in-Some.is c.next.ensures.steps
+    let t = fits_turn (drawn_tried ls ts) c.loop-command.yielded _ c.loop-command.yielded_by _ _ c.in-Some.command c.in-Some.is c.next.ensures.steps
     (YieldsList-from_chain (YieldsList-from_map _ Draw (YieldsList-from_slice ls (cc)) (cc) (λ x r q k. search rules)) (YieldsList-from_map _ Try (YieldsList-from_slice ts (cc)) (cc) (λ x r q k. search rules)) (cc) (cc))
     command_bytes in
     omega (arith, t, c.requires, length_encoded c.args.n ls ts c.args.aim, c.put.ensures.left, c.loop-command.invariant.2.left)

@@ -1,11 +1,6 @@
 -- Commands on a page, one after another.
-use Rattle.std.proofs.Common.{◌≡◌, Some, None, Option, ℕ, ◌+◌, ◌*◌, ◌≤◌, List, [], ◌∷◌, ◌++◌, map, length, sym, refl, ap, ◌∙◌, append_assoc, arith, length-append}
+use Rattle.std.proofs.Common.{◌≡◌, ℕ, ◌+◌, ◌*◌, List, [], ◌∷◌, ◌++◌, map, length, sym, refl, ap, ◌∙◌, append_assoc, arith, length-append}
 use Rattle.std.specs.List.{flat_map}
-use Rattle.std.specs.Iterator.{Yields}
-use Rattle.std.proofs.lemmas.Iterator.{YieldsList}
-use Rattle.std.proofs.lemmas.Iterator.Consumers.{YieldsList-end, YieldsList-so_far, YieldsList-turn}
-use Rattle.std.proofs.lemmas.List.{map-id}
-use Rattle.std.proofs.lemmas.List.Folds.{length-flat_map-take}
 use Rattle.plant.specs.declared.aim.Aim.{Aim}
 use Rattle.plant.specs.declared.line.Line.{Line}
 use Rattle.plantfile.specs.declared.reader.Command.{Command}
@@ -32,15 +27,3 @@ encoded_is n ls ts a = ap (λ bs. 78 ∷ n ∷ bs) (ap (λ bs. bs ++ command_byt
 
 pub length_encoded : (n : ℕ) (ls : List Line) (ts : List Trial) (a : Aim) → length (encoded (record { junctions = n; lines = ls; trials = ts; aim = a })) ≡ 3 + length (flat_map command_bytes (drawn_tried ls ts))
 length_encoded n ls ts a = ap length (sym (encoded_is n ls ts a)) ∙ omega (arith, length-append (flat_map command_bytes (drawn_tried ls ts)) (command_bytes (End a)))
-
--- an iterator that gives the list `all`, at a turn of a loop and at its end
-module _ {S A : Type 0} {steps : S → Option A → S → Type 0} {s : S} (all : List A) (xs : List A) (t : S) (y : Yields steps s xs t) (r : Option A) (u : S) where
-  pub at_turn : (x : A) → r ≡ Some x → steps t r u → YieldsList steps (λ z. z) s all → (f : A → List ℕ) → length (flat_map f xs) + length (f x) ≤ length (flat_map f all)
-  at_turn x is p e f =
-      let so_far = YieldsList-so_far e xs t y in
-      let here = YieldsList-turn e xs t y r u x is p in
-      let most = length-flat_map-take f all (length xs) x here.0 in
-      omega (arith, most, ap (λ l. length (flat_map f l)) (sym (map-id xs) ∙ so_far), ap (λ z. length (f z)) here.1)
-
-  pub at_end : r ≡ None → steps t r u → YieldsList steps (λ z. z) s all → xs ≡ all
-  at_end is p e = sym (map-id xs) ∙ (YieldsList-end e xs t y r u is p).0
