@@ -13,9 +13,12 @@ pub length_held : {A : Type 0} (p : List A) (h n : ℕ) → h ≤ length p → n
 unfolding held
 length_held p h n l m = length-take-le n (turned p h) (rw (length_turned p h l) m)
 
--- no queue holds more than it has room for
+-- a queue holds as many items as it counts, and no more than it has room for
+pub items_counted : {A : Type 0} (q : Queue A) → length (items q) ≡ q.len
+items_counted q = length_held q.places.now q.head q.len q.sound.0 q.sound.1
+
 pub items_fit : {A : Type 0} (q : Queue A) → length (items q) ≤ room q
-items_fit q = omega (arith, length_held q.places.now q.head q.len q.sound.0 q.sound.1, q.sound.1)
+items_fit q = omega (arith, items_counted q, q.sound.1)
 
 -- the end stands for the beginning
 turned_end : {A : Type 0} (p : List A) (h : ℕ) → h ≡ length p → turned p h ≡ turned p 0

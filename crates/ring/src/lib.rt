@@ -3,8 +3,8 @@
 
 mod queue;
 
-pub use queue::Queue;
 pub use queue::calls::Full;
+pub use queue::{Iter, Queue};
 
 #[cfg(test)]
 mod tests {
@@ -33,6 +33,15 @@ mod tests {
         assert_eq!(rt; queue.take(), None);
     }
 
+    // The items as they are gone over, and then none.
+    fn goes_over(rt: &impl Abort, queue: &Queue<Trial>, trials: &[Trial]) {
+        let mut rest = queue.iter();
+        for trial in trials {
+            assert_eq!(rt; rest.next(), Some(*trial));
+        }
+        assert_eq!(rt; rest.next(), None);
+    }
+
     // The second round begins at the last of three places.
     #[test]
     fn turns_round(rt: HostRuntime) -> Result<(), Fail> {
@@ -44,7 +53,9 @@ mod tests {
         takes(&rt, &mut queue, &[a, b]);
         puts(&mut queue, &[b, a, a])?;
         assert_eq!(rt; queue.put(b), Err(Full));
+        goes_over(&rt, &queue, &[b, a, a]);
         takes(&rt, &mut queue, &[b, a, a]);
+        goes_over(&rt, &queue, &[]);
         Ok(())
     }
 }

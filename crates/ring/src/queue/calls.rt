@@ -1,7 +1,8 @@
 ghost use Rattle.std.specs.Prelude.{◌≡◌, ◌<◌, ◌≤◌, true, false, [], ◌∷◌, ◌++◌, length, is_ok, MatchOption, slice_index_or};
 ghost use Rattle.ring.specs.Held.{items, room, Stands};
+ghost use Rattle.ring.specs.Rest.{rest};
 
-use super::Queue;
+use super::{Iter, Queue};
 
 /// The answer of a put where all places are held.
 #[derive(Clone, Copy, PartialEq, Eq, Debug)]
@@ -78,5 +79,12 @@ impl<'a, T: Copy> Queue<'a, T> {
         let at = self.place(i);
         let places = &*self.places;
         Some(places[at])
+    }
+
+    /// The held items from the first to the last, which stay held.
+    pub fn iter(&self) -> Iter<'_, 'a, T>
+        ensures { rest result ≡ items self.now }
+    {
+        Iter { queue: self, at: 0 }
     }
 }

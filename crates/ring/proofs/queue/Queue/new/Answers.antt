@@ -2,5 +2,5 @@ use Rattle.std.proofs.Common.{refl}
 use Rattle.ring.proofs.Turns.{held_none}
 use Rattle.ring.proofs.queue.Queue.new.Goals as goal
 
-pub returns : goal.returns
-returns g c = record { room = refl; empty = held_none _ 0 0 refl }
+pub returns-clause-empty : goal.returns-clause-empty
+returns-clause-empty g c = held_none _ 0 0 refl

@@ -1,20 +1,14 @@
-use Rattle.std.proofs.Common.{refl, arith, length-set}
-use Rattle.ring.proofs.Turns.{length_held, held_put}
+use Rattle.std.proofs.Common.{refl, arith}
+use Rattle.ring.proofs.Turns.{items_counted, held_put}
 use Rattle.ring.proofs.queue.Queue.put.Goals as goal
 
-pub returns-then-len-self : goal.returns-then-len-self
-returns-then-len-self g c = record {
-  room = refl;
-  full = λ h. (refl, refl);
-  kept = λ h. absurd (omega (arith, length_held c.args.self.now.places.now c.args.self.now.head c.args.self.now.len (omega arith) (omega arith)));
-}
+pub returns-then-len-self-clause-kept : goal.returns-then-len-self-clause-kept
+returns-then-len-self-clause-kept g c h = absurd (omega (arith, items_counted c.args.self.now))
 
-pub returns : goal.returns
-returns g c =
+pub returns-clause-full : goal.returns-clause-full
+returns-clause-full g c h = absurd (omega (arith, items_counted c.args.self.now))
+
+pub returns-clause-kept : goal.returns-clause-kept
+returns-clause-kept g c h =
     let s = c.args.self.now in
-    let e = length_held s.places.now s.head s.len (omega arith) (omega arith) in
-    record {
-      room = length-set _ _ _;
-      full = λ h. absurd (omega arith);
-      kept = λ h. (refl, held_put s.places.now s.head s.len _ _ (omega arith) (omega arith) (c.place-at.ensures (omega arith)));
-    }
+    (refl, held_put s.places.now s.head s.len _ _ s.sound.0 (omega arith) (c.place-at.ensures (omega arith)))
