@@ -5,4 +5,4 @@ mod answer;
 mod machine;
 
 pub use answer::{Outcome, Side, Tally};
-pub use machine::{Planner, State};
+pub use machine::{MAX_WORK, Planner, State};
