@@ -5,4 +5,5 @@ mod answer;
 mod machine;
 
 pub use answer::{Outcome, Side, Tally};
-pub use machine::{MAX_WORK, Planner, State};
+pub use machine::calls::MAX_WORK;
+pub use machine::{Planner, State};
