@@ -6,4 +6,4 @@ mod sheets;
 
 pub use page::Page;
 pub use page::calls::Row;
-pub use sheets::{FlowSheet, HurdleSheet, NOTHING_TRIED, Tried, put_declined};
+pub use sheets::{FlowSheet, HurdleSheet, Tried, put_declined};

@@ -9,17 +9,11 @@ use super::page::calls::Row;
 use plant::{Aim, Decline};
 
 /// A trial that was made: its line, and the total if there was a feasible flow.
-#[derive(Clone, Copy, PartialEq, Eq, Debug)]
+#[derive(Clone, Copy, Default, PartialEq, Eq, Debug)]
 pub struct Tried {
     pub line: u16,
     pub total: Option<u64>,
 }
-
-/// Fills a place that holds no trial yet.
-pub const NOTHING_TRIED: Tried = Tried {
-    line: 0,
-    total: None,
-};
 
 /// What is shown of a plant with a flow, the cuts as marks below n.
 #[derive(Clone, Copy)]
