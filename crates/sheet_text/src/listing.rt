@@ -109,6 +109,7 @@ pub fn write_text(file: &[u8], out: &mut [u8]) -> Result<usize, Decline>
     ensures short { IfOk result (λ len. (len ≤ 16384) × (16384 ≤ length out.new)) }
 {
     expect_room(out)?;
+    // By `unwrap_or_else` the proof does not close: its contract leaves open what the closure writes.
     match write_listing(file, out) {
         Ok(len) => Ok(len),
         Err(decline) => Ok(put_declined(decline, out)),

@@ -5,7 +5,7 @@ use Rattle.std.proofs.lemmas.List.{get_or_default}
 use borrow.Rule.Slice.PartMut.{put_mid}
 use Rattle.text.specs.declared.page.Page.{Page}
 use Rattle.text.specs.Pieces.{Adds, Begins, Puts, pasted, room}
-use Rattle.text.specs.Text.{each_below}
+use Rattle.text.specs.Text.{each_below, rows_of}
 
 -- what `copy_from_slice` into `buf[i..e]` leaves
 pub pasted_mid : (buf bs ys : List ℕ) (i e : ℕ) → e ≡ i + length bs → ys ≡ bs → put_mid i (e - i) buf ys ≡ pasted buf i bs
@@ -90,7 +90,7 @@ next_fits {xs} ys h p = let l = length-append xs ys in omega (arith, p.left)
 
 -- the rows of a list, one behind another
 module _ {A : Type 0} (f : ℕ → A → List ℕ) (xs : List A) (i : ℕ) (x : A) (there : i < length xs) (is : x ≡ get_or xs i x) {a b : Page} (before : (d : A) → Adds (each_below i (λ k. f k (get_or xs k d))) a b) where
-  pub row_fits : ((d : A) → length (each_below (length xs) (λ k. f k (get_or xs k d))) ≤ room a) → length (f i x) ≤ room b
+  pub row_fits : ((d : A) → length (rows_of f xs d) ≤ room a) → length (f i x) ≤ room b
   row_fits fits = omega (arith, reach (λ k. f k (get_or xs k x)) i (length xs) there, ap (λ y. length (f i y)) is, fits x, (before x).left)
 
   pub row_added : {e : Page} → Adds (f i x) b e → (d : A) → Adds (each_below (i + 1) (λ k. f k (get_or xs k d))) a e
@@ -99,7 +99,7 @@ module _ {A : Type 0} (f : ℕ → A → List ℕ) (xs : List A) (i : ℕ) (x : 
       rw add-one (then_adds (before d) (subst (λ y. Adds (f i y) b e) same p))
 
 -- whatever stands past the end of a list
-pub rows_fit : {A : Type 0} (f : ℕ → A → List ℕ) (xs : List A) (x : A) {n : ℕ} → length (each_below (length xs) (λ k. f k (get_or xs k x))) ≤ n → (d : A) → length (each_below (length xs) (λ k. f k (get_or xs k d))) ≤ n
+pub rows_fit : {A : Type 0} (f : ℕ → A → List ℕ) (xs : List A) (x : A) {n : ℕ} → length (rows_of f xs x) ≤ n → (d : A) → length (rows_of f xs d) ≤ n
 rows_fit f xs x h d = rw (same (length xs) (omega arith)) h
   where
     same : (i : ℕ) → i ≤ length xs → each_below i (λ k. f k (get_or xs k d)) ≡ each_below i (λ k. f k (get_or xs k x))

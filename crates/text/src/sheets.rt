@@ -34,6 +34,46 @@ pub struct HurdleSheet<'a> {
     pub trials: &'a [Tried],
 }
 
+impl Page<'_> {
+    fn put_total(&mut self, total: Option<u64>)
+        requires { length (total_text total) ≤ room self.old }
+        ensures { Adds (total_text total) self.old self.new }
+    {
+        match total {
+            Some(total) => self.put_number(total),
+            None => self.put(b"NONE"),
+        }
+    }
+
+    fn put_cut(&mut self, name: &[u8], set: &[bool])
+        requires { length (cut_row name.now set.now) ≤ room self.old }
+        ensures { Adds (cut_row name.now set.now) self.old self.new }
+    {
+        self.put(name);
+        self.put_rows(set);
+        self.put(b"\n");
+    }
+
+    fn put_aim(&mut self, aim: Aim)
+        requires { length (aim_name aim) ≤ room self.old }
+        ensures { Adds (aim_name aim) self.old self.new }
+    {
+        match aim {
+            Aim::Greatest => self.put(b"GREATEST "),
+            Aim::Least => self.put(b"LEAST "),
+        }
+    }
+
+    fn put_head(&mut self, aim: Aim, total: u64)
+        requires { length (head_row aim total) ≤ room self.old }
+        ensures { Adds (head_row aim total) self.old self.new }
+    {
+        self.put_aim(aim);
+        self.put_number(total);
+        self.put(b"\n");
+    }
+}
+
 // A flow, beside the number of its line.
 impl Row for u32 {
     ghost text = { flow_row };
@@ -65,47 +105,9 @@ impl Row for Tried {
         page.put(b"TRIAL ");
         page.put_number(self.line as u64);
         page.put(b" ");
-        put_total(page, self.total);
+        page.put_total(self.total);
         page.put(b"\n");
     }
-}
-
-fn put_total(page: &mut Page<'_>, total: Option<u64>)
-    requires { length (total_text total) ≤ room page.old }
-    ensures { Adds (total_text total) page.old page.new }
-{
-    match total {
-        Some(total) => page.put_number(total),
-        None => page.put(b"NONE"),
-    }
-}
-
-fn put_cut(page: &mut Page<'_>, name: &[u8], set: &[bool])
-    requires { length (cut_row name.now set.now) ≤ room page.old }
-    ensures { Adds (cut_row name.now set.now) page.old page.new }
-{
-    page.put(name);
-    page.put_rows(set);
-    page.put(b"\n");
-}
-
-fn put_aim(page: &mut Page<'_>, aim: Aim)
-    requires { length (aim_name aim) ≤ room page.old }
-    ensures { Adds (aim_name aim) page.old page.new }
-{
-    match aim {
-        Aim::Greatest => page.put(b"GREATEST "),
-        Aim::Least => page.put(b"LEAST "),
-    }
-}
-
-fn put_head(page: &mut Page<'_>, aim: Aim, total: u64)
-    requires { length (head_row aim total) ≤ room page.old }
-    ensures { Adds (head_row aim total) page.old page.new }
-{
-    put_aim(page, aim);
-    page.put_number(total);
-    page.put(b"\n");
 }
 
 impl FlowSheet<'_> {
@@ -113,10 +115,10 @@ impl FlowSheet<'_> {
         requires { length (flow_text self.now.aim self.now.total self.now.flows.now self.now.near.now self.now.far.now self.now.trials.now) ≤ room page.old }
         ensures { Adds (flow_text self.now.aim self.now.total self.now.flows.now self.now.near.now self.now.far.now self.now.trials.now) page.old page.new }
     {
-        put_head(page, self.aim, self.total);
+        page.put_head(self.aim, self.total);
         page.put_rows(self.flows);
-        put_cut(page, b"NEAR", self.near);
-        put_cut(page, b"FAR", self.far);
+        page.put_cut(b"NEAR", self.near);
+        page.put_cut(b"FAR", self.far);
         page.put_rows(self.trials);
     }
 
@@ -144,7 +146,7 @@ impl HurdleSheet<'_> {
         page.put(b"IMPOSSIBLE ");
         page.put_number(self.shortfall);
         page.put(b"\n");
-        put_cut(page, b"HURDLE", self.hurdle);
+        page.put_cut(b"HURDLE", self.hurdle);
         page.put_rows(self.trials);
     }
 

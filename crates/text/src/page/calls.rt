@@ -1,6 +1,6 @@
-ghost use Rattle.std.specs.Prelude.{◌≡◌, ℕ, ◌≤◌, List, length, decimal, slice_index_or};
+ghost use Rattle.std.specs.Prelude.{◌≡◌, ℕ, ◌≤◌, List, length, decimal};
 ghost use Rattle.text.specs.Pieces.{Adds, Begins, room};
-ghost use Rattle.text.specs.Text.{each_below};
+ghost use Rattle.text.specs.Text.{rows_of};
 
 use super::Page;
 use itoa::Buffer;
@@ -50,8 +50,8 @@ impl<'a> Page<'a> {
 
     /// The rows of a list, in its order.
     pub fn put_rows<R: Row>(&mut self, rows: &[R])
-        requires { (d : R) → length (each_below (length rows.now) (λ i. R.text i (slice_index_or rows.now i d))) ≤ room self.old }
-        ensures { (d : R) → Adds (each_below (length rows.now) (λ i. R.text i (slice_index_or rows.now i d))) self.old self.new }
+        requires { (d : R) → length (rows_of R.text rows.now d) ≤ room self.old }
+        ensures { (d : R) → Adds (rows_of R.text rows.now d) self.old self.new }
     {
         for (place, row) in rows.iter().enumerate() {
             row.put(place, self);

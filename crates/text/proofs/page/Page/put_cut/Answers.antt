@@ -1,7 +1,7 @@
 use Rattle.std.proofs.Common.{◌++◌, false}
 use Rattle.text.specs.Text.{marked, members, newline}
 use Rattle.text.proofs.Paste.{first_fits, next_fits, rows_fit, then_adds}
-use Rattle.text.proofs.sheets.put_cut.Goals as goal
+use Rattle.text.proofs.page.Page.put_cut.Goals as goal
 
 pub put_rows-requires : goal.put_rows-requires
 put_rows-requires c =
