@@ -8,8 +8,10 @@ use Rattle.plant.specs.declared.decline.Decline.{Decline}
 use Rattle.plant.specs.declared.decline.Decline.TheVariants.{BufferLength, TrialCount}
 use Rattle.plant.specs.declared.line.Line.{Line}
 use Rattle.plantfile.specs.declared.reader.Trial.{Trial}
-use Rattle.plantfile.specs.Writing.{Laid, Puts, aim_byte, encoded, line_bytes, test_each, test_trials, then_test, trial_bytes, written}
-use Rattle.plantfile.proofs.Paste.{length_pieces, pasted_start}
+use Rattle.plantfile.specs.Writing.{Laid, aim_byte, encoded, line_bytes, test_each, test_trials, then_test, trial_bytes, written}
+use Rattle.plantfile.proofs.Commands.{length_pieces}
+use Rattle.text.specs.Pieces.{Puts}
+use Rattle.text.proofs.Paste.{pasted_start}
 
 -- a test, and those after it
 pub then_passes : (o on : Option Decline) → Ok tt ≡ pass o → then_test o on ≡ on
@@ -52,7 +54,7 @@ module _ (n : ℕ) (ls : List Line) (ts : List Trial) (a : ℕ) where
     | Err d ↦ Err d
   ]
 
-  length_file : (aim : Aim) → length (file_of aim) ≡ 3 + 11 * (length ls + length ts)
+  pub length_file : (aim : Aim) → length (file_of aim) ≡ 3 + 11 * (length ls + length ts)
   length_file aim =
       let l = flat_map line_bytes ls in
       let t = flat_map trial_bytes ts in

@@ -43,7 +43,7 @@ fits_trial m t few e =
     let d = ltb-false 1000000 t.high q.1 in
     (omega arith, omega arith, omega arith)
 
-both_pass : (o on : Option Decline) → then_test o on ≡ None → (o ≡ None) × (on ≡ None)
+pub both_pass : (o on : Option Decline) → then_test o on ≡ None → (o ≡ None) × (on ≡ None)
 both_pass None on e = (refl, e)
 both_pass (Some d) on e = absurd (let z : ◌≡◌ {A = ℕ} 0 1 = cc in omega arith)
 

@@ -24,6 +24,10 @@ word16 bs i = slice_index bs i * 256 + slice_index bs (i + 1)
 abbrev pub word32 : List ℕ → ℕ → ℕ
 word32 bs i = slice_index bs i * 16777216 + slice_index bs (i + 1) * 65536 + slice_index bs (i + 2) * 256 + slice_index bs (i + 3)
 
+-- the operands of L and T: two bytes, then the limits
+abbrev pub operands_of : List ℕ → Result (List ℕ × ℕ × ℕ) Decline
+operands_of bs = cond (nat_lt (length bs) 10) (Err FileEnds) (Ok (slice_index bs 0 ∷ slice_index bs 1 ∷ [], word32 bs 2, word32 bs 6))
+
 -- the operands of L, and of T
 abbrev pub line_of : List ℕ → Result Command Decline
 line_of bs = cond (nat_lt (length bs) 10) (Err FileEnds) (Ok (Draw (record { from = slice_index bs 0; to = slice_index bs 1; low = word32 bs 2; high = word32 bs 6 })))

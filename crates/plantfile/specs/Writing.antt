@@ -1,5 +1,5 @@
--- The plant file that the writer makes of a plant, and a buffer that is written into.
-use Rattle.std.specs.Prelude.{◌≡◌, ℕ, ◌+◌, ◌/◌, ◌%◌, cond, List, [], ◌∷◌, ◌++◌, length, take, drop, Some, None, Ok, Err, Option, Result, nat_le, nat_lt}
+-- The plant file that the writer makes of a plant.
+use Rattle.std.specs.Prelude.{◌≡◌, ℕ, ◌/◌, ◌%◌, cond, List, [], ◌∷◌, ◌++◌, length, drop, Some, None, Ok, Err, Option, Result, nat_le, nat_lt}
 use Rattle.std.specs.List.{flat_map}
 use Rattle.plant.specs.Tests.{test, test_trial, tested, unless}
 use Rattle.plant.specs.declared.aim.Aim.{Aim}
@@ -7,6 +7,8 @@ use Rattle.plant.specs.declared.aim.Aim.TheVariants.{Greatest, Least}
 use Rattle.plant.specs.declared.decline.Decline.{Decline}
 use Rattle.plant.specs.declared.decline.Decline.TheVariants.{BufferLength, TrialCount}
 use Rattle.plant.specs.declared.line.Line.{Line}
+use Rattle.plantfile.specs.declared.reader.Command.{Command}
+use Rattle.plantfile.specs.declared.reader.Command.TheVariants.{Draw, Try, End}
 use Rattle.plantfile.specs.declared.reader.Trial.{Trial}
 use Rattle.plantfile.specs.Format.{Content}
 
@@ -27,6 +29,12 @@ trial_bytes t = (84 ∷ []) ++ (two t.line ++ (four t.low ++ four t.high))
 abbrev pub aim_byte : Aim → ℕ
 aim_byte Greatest = 71
 aim_byte Least = 77
+
+-- what the writer makes of a command
+abbrev pub command_bytes : Command → List ℕ
+command_bytes (Draw l) = line_bytes l
+command_bytes (Try t) = trial_bytes t
+command_bytes (End a) = aim_byte a ∷ []
 
 -- N, all L, all T, the aim
 abbrev pub encoded : Content → List ℕ
@@ -57,12 +65,3 @@ written n ls ts a = elim (tested n ls a) [
 abbrev pub Laid : Result (List ℕ) Decline → List ℕ → Result ℕ Decline → List ℕ → Type 0
 Laid (Err d) before r after = (r ≡ Err d) × (after ≡ before)
 Laid (Ok text) before r after = cond (nat_le (length text) (length before)) ((r ≡ Ok (length text)) × (after ≡ text ++ drop (length text) before)) ((r ≡ Err BufferLength) × (after ≡ before))
-
--- buf with bs from place i on
-unfoldable pub pasted : List ℕ → ℕ → List ℕ → List ℕ
-pasted buf i bs = take i buf ++ (bs ++ drop (i + length bs) buf)
-
--- text was put into `before` from place i on, which left `after`, and ends before r
-pub record Puts (text before : List ℕ) (i r : ℕ) (after : List ℕ) : Type 0 where
-  pub end : r ≡ i + length text
-  pub is : after ≡ pasted before i text

@@ -7,7 +7,7 @@ mod writer;
 
 pub use laws::{reads_back, writes_again, writes_in_order, written_reads_back};
 pub use reader::{BLANK_TRIAL, Heading, MAX_TRIALS, Trial, read_file};
-pub use writer::write_file;
+pub use writer::{test_each, write_file};
 
 #[cfg(test)]
 mod tests {

@@ -1,6 +1,6 @@
 //! Reads a plant file: N with the number of junctions, lines and trials in any order, the aim, nothing more.
 ghost use Rattle.std.specs.Prelude.{◌≡◌, ◌+◌, ◌-◌, [], ◌∷◌, ◌++◌, length, take, slice_set};
-ghost use Rattle.plantfile.specs.Format.{after, first, line_of, parse, Told, trial_of};
+ghost use Rattle.plantfile.specs.Format.{after, first, line_of, operands_of, parse, Told, trial_of};
 ghost use Rattle.ring.specs.Held.{items, room};
 
 use plant::{Aim, Decline, Line};
@@ -37,44 +37,44 @@ pub struct Heading {
 
 // What one command says.
 #[derive(Clone, Copy, PartialEq, Eq, Debug)]
-enum Command {
+pub(crate) enum Command {
     Draw(Line),
     Try(Trial),
     End(Aim),
 }
 
-// The operands of L.
-fn read_line(operands: &[u8]) -> Result<Command, Decline>
-    ensures { result ≡ line_of operands.now }
+// The operands of L and T: two bytes, then the limits.
+fn read_operands(bytes: &[u8]) -> Result<([u8; 2], u32, u32), Decline>
+    ensures { result ≡ operands_of bytes.now }
 {
-    match operands {
-        [from, to, l3, l2, l1, l0, h3, h2, h1, h0, ..] => {
-            let low = u32::from_be_bytes([*l3, *l2, *l1, *l0]);
-            let high = u32::from_be_bytes([*h3, *h2, *h1, *h0]);
-            Ok(Command::Draw(Line {
-                from: *from,
-                to: *to,
-                low,
-                high,
-            }))
-        }
-        _ => Err(Decline::FileEnds),
-    }
+    let [a, b, l3, l2, l1, l0, h3, h2, h1, h0, ..] = *bytes else {
+        return Err(Decline::FileEnds);
+    };
+    let low = u32::from_be_bytes([l3, l2, l1, l0]);
+    let high = u32::from_be_bytes([h3, h2, h1, h0]);
+    Ok(([a, b], low, high))
+}
+
+// The operands of L.
+fn read_line(bytes: &[u8]) -> Result<Command, Decline>
+    ensures { result ≡ line_of bytes.now }
+{
+    let ([from, to], low, high) = read_operands(bytes)?;
+    Ok(Command::Draw(Line {
+        from,
+        to,
+        low,
+        high,
+    }))
 }
 
 // The operands of T.
-fn read_trial(operands: &[u8]) -> Result<Command, Decline>
-    ensures { result ≡ trial_of operands.now }
+fn read_trial(bytes: &[u8]) -> Result<Command, Decline>
+    ensures { result ≡ trial_of bytes.now }
 {
-    match operands {
-        [n1, n0, l3, l2, l1, l0, h3, h2, h1, h0, ..] => {
-            let line = u16::from_be_bytes([*n1, *n0]);
-            let low = u32::from_be_bytes([*l3, *l2, *l1, *l0]);
-            let high = u32::from_be_bytes([*h3, *h2, *h1, *h0]);
-            Ok(Command::Try(Trial { line, low, high }))
-        }
-        _ => Err(Decline::FileEnds),
-    }
+    let (line, low, high) = read_operands(bytes)?;
+    let line = u16::from_be_bytes(line);
+    Ok(Command::Try(Trial { line, low, high }))
 }
 
 // The first command of what follows N and its operand, where so many trials came before.
@@ -99,6 +99,7 @@ fn first_command(rest: &[u8], trials: usize) -> Result<Command, Decline>
 fn keep_line(lines: &mut [Line], at: usize, line: Line)
     ensures { lines.new ≡ slice_set lines.old at line }
 {
+    // By `get_mut` the proof does not close: it then knows how many places there are, and not what they hold.
     if at < lines.len() {
         lines[at] = line;
     }

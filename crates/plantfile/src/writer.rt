@@ -1,81 +1,61 @@
 //! Writes a plant file: N with the number of junctions, all lines, all trials, the aim.
-ghost use Rattle.std.specs.Prelude.{◌≡◌, ◌+◌, ◌*◌, ◌≤◌, length};
+ghost use Rattle.std.specs.Prelude.{◌≡◌, ◌≤◌, List, length};
 ghost use Rattle.plant.specs.Tests.{pass};
-ghost use Rattle.plantfile.specs.Writing.{aim_byte, encoded, Laid, line_bytes, Puts, test_trials, trial_bytes, written};
-ghost use Rattle.std.specs.List.{flat_map};
+ghost use Rattle.plantfile.specs.Writing.{command_bytes, encoded, Laid, test_each, test_trials, written};
+ghost use Rattle.plantfile.specs.declared.reader.Trial.{Trial};
+ghost use Rattle.std.specs.Iterator.{AlwaysYields, IsFinite};
+ghost use Rattle.text.specs.Pieces.{Adds, room};
 
-use super::reader::{COMMAND_LEN, MAX_TRIALS, Trial};
+use super::reader::{COMMAND_LEN, Command, MAX_TRIALS, Trial};
 use plant::{Aim, Decline, Line, test_plant, test_trial};
+use text::Page;
 
-// Bytes into the buffer from `at` on; answers where they end.
-fn put(out: &mut [u8], at: usize, bytes: &[u8]) -> usize
-    requires { at + length bytes.now ≤ length out.old }
-    ensures { Puts bytes.now out.old at result out.new }
+// One command.
+fn put_command(page: &mut Page<'_>, command: &Command)
+    requires { length (command_bytes command.now) ≤ room page.old }
+    ensures { Adds (command_bytes command.now) page.old page.new }
 {
-    let end = at + bytes.len();
-    out[at..end].copy_from_slice(bytes);
-    end
-}
-
-fn put_line(out: &mut [u8], at: usize, line: &Line) -> usize
-    requires { at + 11 ≤ length out.old }
-    ensures { Puts (line_bytes line.now) out.old at result out.new }
-{
-    let at = put(out, at, &[b'L', line.from, line.to]);
-    let at = put(out, at, &line.low.to_be_bytes());
-    put(out, at, &line.high.to_be_bytes())
-}
-
-fn put_trial(out: &mut [u8], at: usize, trial: &Trial) -> usize
-    requires { at + 11 ≤ length out.old }
-    ensures { Puts (trial_bytes trial.now) out.old at result out.new }
-{
-    let at = put(out, at, &[b'T']);
-    let at = put(out, at, &trial.line.to_be_bytes());
-    let at = put(out, at, &trial.low.to_be_bytes());
-    put(out, at, &trial.high.to_be_bytes())
-}
-
-fn put_lines(out: &mut [u8], start: usize, lines: &[Line]) -> usize
-    requires { start + 11 * length lines.now ≤ length out.old }
-    ensures { Puts (flat_map line_bytes lines.now) out.old start result out.new }
-{
-    let mut at = start;
-    for line in lines {
-        at = put_line(out, at, line);
+    match command {
+        Command::Draw(line) => {
+            page.put(&[b'L', line.from, line.to]);
+            page.put(&line.low.to_be_bytes());
+            page.put(&line.high.to_be_bytes());
+        }
+        Command::Try(trial) => {
+            page.put(b"T");
+            page.put(&trial.line.to_be_bytes());
+            page.put(&trial.low.to_be_bytes());
+            page.put(&trial.high.to_be_bytes());
+        }
+        Command::End(Aim::Greatest) => page.put(b"G"),
+        Command::End(Aim::Least) => page.put(b"M"),
     }
-    at
 }
 
-fn put_trials(out: &mut [u8], start: usize, trials: &[Trial]) -> usize
-    requires { start + 11 * length trials.now ≤ length out.old }
-    ensures { Puts (flat_map trial_bytes trials.now) out.old start result out.new }
+// The whole file.
+fn put_file(page: &mut Page<'_>, n: u8, lines: &[Line], trials: &[Trial], aim: Aim)
+    requires { length (encoded (record { junctions = n; lines = lines.now; trials = trials.now; aim = aim })) ≤ room page.old }
+    ensures { Adds (encoded (record { junctions = n; lines = lines.now; trials = trials.now; aim = aim })) page.old page.new }
 {
-    let mut at = start;
+    let draws = lines.iter().map(|line| Command::Draw(*line));
+    let tries = trials.iter().map(|trial| Command::Try(*trial));
+    page.put(&[b'N', n]);
+    for command in draws.chain(tries) {
+        put_command(page, &command);
+    }
+    put_command(page, &Command::End(aim));
+}
+
+/// The tests of trials on a list of `count` lines: each in order, up to the first that fails.
+pub fn test_each<I: Iterator<Item = Trial> + Drop>(count: usize, trials: I) -> Result<(), Decline>
+    requires can { I.can_next trials }
+    requires ends { IsFinite (I.remaining trials) }
+    ensures { (all : List Trial) → AlwaysYields I.next_gives (λ t. t) trials all → result ≡ pass (test_each count all) }
+{
     for trial in trials {
-        at = put_trial(out, at, trial);
+        test_trial(count, trial.line, trial.low, trial.high)?;
     }
-    at
-}
-
-fn aim_letter(aim: Aim) -> u8
-    ensures { result ≡ aim_byte aim }
-{
-    match aim {
-        Aim::Greatest => b'G',
-        Aim::Least => b'M',
-    }
-}
-
-// The whole file, which has room.
-fn put_file(n: u8, lines: &[Line], trials: &[Trial], aim: Aim, out: &mut [u8]) -> usize
-    requires { 3 + 11 * (length lines.now + length trials.now) ≤ length out.old }
-    ensures { Puts (encoded (record { junctions = n; lines = lines.now; trials = trials.now; aim = aim })) out.old 0 result out.new }
-{
-    let at = put(out, 0, &[b'N', n]);
-    let at = put_lines(out, at, lines);
-    let at = put_trials(out, at, trials);
-    put(out, at, &[aim_letter(aim)])
+    Ok(())
 }
 
 // The tests of the trials on a list of `count` lines: how many, then each in order.
@@ -85,10 +65,7 @@ fn test_trials(count: usize, trials: &[Trial]) -> Result<(), Decline>
     if trials.len() > MAX_TRIALS {
         return Err(Decline::TrialCount);
     }
-    for trial in trials {
-        test_trial(count, trial.line, trial.low, trial.high)?;
-    }
-    Ok(())
+    test_each(count, trials.iter().copied())
 }
 
 /// Writes the file of a plant that passes the tests, with trials that pass theirs, to the front of `out`, and answers
@@ -109,5 +86,7 @@ pub fn write_file(
     if out.len() < len {
         return Err(Decline::BufferLength);
     }
-    Ok(put_file(n, lines, trials, aim, out))
+    let mut page = Page::new(out);
+    put_file(&mut page, n, lines, trials, aim);
+    Ok(page.len())
 }

@@ -1,5 +1,5 @@
 -- The sheet in its buffer.
-use Rattle.std.proofs.Common.{◌≡◌, ℕ, ◌-◌, IfOk, ◌<◌, ◌≤◌, Bool, List, length, take, drop, pos, Some, None, Ok, Err, Option, Result, sym, refl, ap, ◌∙◌, subst, arith, length-append, length-drop, length-take}
+use Rattle.std.proofs.Common.{◌≡◌, ℕ, IfOk, ◌<◌, ◌≤◌, Bool, ◌⊎◌, List, length, take, drop, pos, Some, None, Ok, Err, Option, Result, sym, refl, ap, ◌∙◌, subst, ⊎_elim, arith, length-append, length-drop, length-take}
 use Rattle.std.proofs.lemmas.Bool.{le-ltb, lt-ltb}
 use Rattle.chooser.specs.declared.fifo.Fifo.{Fifo}
 use Rattle.chooser.specs.FifoCalls.{holds}
@@ -52,8 +52,8 @@ small_flows p f s e is =
     let n = flow_length p s e in
     subst (λ (g : Flow). SmallFlows g) (sym is) (omega (arith, n, (held p.plant).few), λ i j. flow_small p s e i (omega (arith, n)))
 
-pub few_marks : (n : ℕ) (marks : List Bool) → n ≤ 250 → length (take (n - 0) marks) ≤ 250
-few_marks n marks h = omega (arith, length-take (n - 0) marks)
+pub few_marks : (n : ℕ) (marks : List Bool) → n ≤ 250 → length (take n marks) ≤ 250
+few_marks n marks h = omega (arith, length-take n marks)
 
 module _ (c : Content) (p : Planner Fifo) (asks : Asks c p) where
   same_count : p.plant.n ≡ c.junctions
@@ -62,13 +62,13 @@ module _ (c : Content) (p : Planner Fifo) (asks : Asks c p) where
   pub few_junctions : c.junctions ≤ 250
   few_junctions = omega (arith, same_count, p.plant.sized.1)
 
-  marks_each : (marks : List Bool) → length marks ≡ 256 → length (take (c.junctions - 0) marks) ≡ c.junctions
-  marks_each marks l = omega (arith, length-take (c.junctions - 0) marks, few_junctions)
+  marks_each : (marks : List Bool) → length marks ≡ 256 → length (take c.junctions marks) ≡ c.junctions
+  marks_each marks l = omega (arith, length-take c.junctions marks, few_junctions)
 
-  told_marks : (marks : List Bool) → marked (take p.plant.n marks) ≡ marked (take (c.junctions - 0) marks)
-  told_marks marks = let z : p.plant.n ≡ c.junctions - 0 = omega (arith, same_count) in ap (λ (n : ℕ). marked (take n marks)) z
+  told_marks : (marks : List Bool) → marked (take p.plant.n marks) ≡ marked (take c.junctions marks)
+  told_marks marks = ap (λ (n : ℕ). marked (take n marks)) same_count
 
-  told_cut : (side : Side) (marks : List Bool) → Extreme side p.plant.aim (plant_in p) (marked (take p.plant.n marks)) → Extreme side c.aim (plant_told c) (marked (take (c.junctions - 0) marks))
+  told_cut : (side : Side) (marks : List Bool) → Extreme side p.plant.aim (plant_in p) (marked (take p.plant.n marks)) → Extreme side c.aim (plant_told c) (marked (take c.junctions marks))
   told_cut side marks h =
       subst (λ (S : Junctions). Extreme side c.aim (plant_told c) S) (told_marks marks)
       (subst (λ (P : Plant). Extreme side c.aim P (marked (take p.plant.n marks))) asks.plant
@@ -80,15 +80,15 @@ module _ (c : Content) (p : Planner Fifo) (asks : Asks c p) where
       → length near ≡ 256 → Extreme Near p.plant.aim (plant_in p) (marked (take p.plant.n near))
       → length far ≡ 256 → Extreme Far p.plant.aim (plant_in p) (marked (take p.plant.n far))
       → TriedAll c.aim (plant_told c) c.trials tried
-      → Sheet c (flow_text c.aim x f (take (c.junctions - 0) near) (take (c.junctions - 0) far) tried)
+      → Sheet c (flow_text c.aim x f (take c.junctions near) (take c.junctions far) tried)
   flow_sheet e x f near far tried t is nl n fl r all =
       let b = flow_best holds p asks.sound e in
       let b₁ = subst (λ (P : Plant). Best c.aim P (flows_of (arcs_in p))) asks.plant (subst (λ (a : Aim). Best a (plant_in p) (flows_of (arcs_in p))) asks.aim b) in
       with_flow (record {
         flow = f;
         total = x;
-        near = take (c.junctions - 0) near;
-        far = take (c.junctions - 0) far;
+        near = take c.junctions near;
+        far = take c.junctions far;
         tried = tried;
         best = subst (λ (g : Flow). Best c.aim (plant_told c) g) (sym is) b₁;
         is_total = ap (λ (g : Flow). plants.total (plant_told c) g) is ∙ ap (λ (P : Plant). plants.total P (flows_of (arcs_in p))) (sym asks.plant) ∙ t;
@@ -104,18 +104,18 @@ module _ (c : Content) (p : Planner Fifo) (asks : Asks c p) where
   pub hurdle_sheet : p.state ≡ SettledImpossible → (x : ℕ) (hurdle : List Bool) (tried : List Tried)
       → length hurdle ≡ 256 → WorstHurdle (plant_in p) (marked (take p.plant.n hurdle)) → x ≡ shortfall (plant_in p) (marked (take p.plant.n hurdle))
       → TriedAll c.aim (plant_told c) c.trials tried
-      → Sheet c (hurdle_text x (take (c.junctions - 0) hurdle) tried)
+      → Sheet c (hurdle_text x (take c.junctions hurdle) tried)
   hurdle_sheet e x hurdle tried l w is all =
-      let S = marked (take (c.junctions - 0) hurdle) in
+      let S = marked (take c.junctions hurdle) in
       let y : x ≡ shortfall (plant_told c) S = is ∙ ap (shortfall (plant_in p)) (told_marks hurdle) ∙ ap (λ (P : Plant). shortfall P S) asks.plant in
       impossible (record {
-        hurdle = take (c.junctions - 0) hurdle;
+        hurdle = take c.junctions hurdle;
         tried = tried;
         none = subst (λ (P : Plant). (f : Flow) → Feasible P f → ⊥) asks.plant (stuck_none holds p asks.sound e);
         marks = marks_each hurdle l;
         worst = subst (λ (P : Plant). WorstHurdle P S) asks.plant (subst (WorstHurdle (plant_in p)) (told_marks hurdle) w);
         is_tried = all;
-        is = ap (λ (z : ℕ). hurdle_text z (take (c.junctions - 0) hurdle) tried) y;
+        is = ap (λ (z : ℕ). hurdle_text z (take c.junctions hurdle) tried) y;
       })
 
 -- a planner that was started on what a file says
@@ -129,10 +129,10 @@ module _ (clears : Fifo → Fifo → Type 0) (puts : Fifo → ℕ → ℕ → Fi
         aim = ap (λ (q : HeldPlant). q.aim) same ∙ same_aim (tested h.n ls a) p.plant.aim h.aim started.tests (list_tested h.n a ls h.aim number list);
       }
 
-pub settled_flow : (o : Outcome) (m : State) → (o ≡ outcomes.Impossible → ⊥) → Settles o m → m ≡ SettledFlow
+pub settled_flow : (o : Outcome) (m : State) → (o ≡ outcomes.InWork) ⊎ (o ≡ outcomes.Flow) → Settles o m → m ≡ SettledFlow
 settled_flow outcomes.InWork m h s = absurd s
 settled_flow outcomes.Flow m h s = s
-settled_flow outcomes.Impossible m h s = absurd (h refl)
+settled_flow outcomes.Impossible m h s = ⊎_elim (λ e. absurd (let z : ◌≡◌ {A = ℕ} 0 1 = cc in omega arith)) (λ e. absurd (let z : ◌≡◌ {A = ℕ} 0 1 = cc in omega arith)) h
 
 -- a buffer without room
 module _ (before : List ℕ) (o : Result Content Decline) where

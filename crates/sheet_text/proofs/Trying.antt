@@ -1,8 +1,7 @@
 -- Trials, one after another.
-use Rattle.std.proofs.Common.{◌≡◌, ℕ, zero, suc, ◌+◌, ◌<◌, ◌≤◌, leb, List, [], ◌∷◌, length, get_or, take, drop, pos, Some, None, Option, sym, refl, ap, ◌∙◌, subst, ⊎_elim, arith, length-drop, length-take-le, get_or-take}
-use Rattle.std.proofs.lemmas.List.{drop_all, drop_more}
+use Rattle.std.proofs.Common.{◌≡◌, ℕ, ◌<◌, leb, ◌⊎◌, List, [], ◌∷◌, ◌++◌, length, get_or, pos, Some, None, Option, sym, refl, ap, ◌∙◌, subst, ⊎_elim, arith, length-append}
+use Rattle.std.proofs.lemmas.List.{get_or_append_left, get_or_at}
 use Rattle.std.proofs.lemmas.Bool.{leb-false}
-use Rattle.std.proofs.str.Laws.{order}
 use Rattle.chooser.specs.declared.fifo.Fifo.{Fifo}
 use Rattle.chooser.specs.FifoCalls.{holds}
 use Rattle.plant.specs.declared.aim.Aim.{Aim}
@@ -24,20 +23,22 @@ use Rattle.planner.specs.Standing.{Sound, arcs_in, plant_in}
 use Rattle.planner.proofs.Laws.{flow_best, stuck_none}
 use Rattle.planner.proofs.Tried.{not_both, same_aim, test_off}
 use Rattle.plantfile.specs.declared.reader.Trial.{Trial}
-use Rattle.plantfile.specs.Writing.{test_each, then_test}
+use Rattle.plantfile.specs.Writing.{test_each}
+use Rattle.plantfile.proofs.Written.{both_pass}
 use Rattle.sheet_text.specs.Sheets.{BestTotal, TriedAll, TriedOne, no_trial}
+use Rattle.sheet_text.proofs.Kept.{each_more}
 use Rattle.sheet_text.proofs.Testing.{list_tested}
 use Rattle.text.specs.declared.sheets.Tried.{Tried}
-use Rattle.text.specs.Text.{Sized, SmallTrials, nothing}
+use Rattle.text.specs.Text.{nothing}
 
 -- the plant of a trial
 limits_are : (n k low high : ℕ) (ls : List Line) → ◌≡◌ {A = Plant} (record { junctions = n; lines = limited ls k low high }) (with_limits (record { junctions = n; lines = ls }) k low high)
 unfolding limited
 limits_are n k low high ls = refl
 
-settled_none : (o : Outcome) {m : _} → (o ≡ outcomes.Flow → ⊥) → Settles o m → m ≡ SettledImpossible
+settled_none : (o : Outcome) {m : _} → (o ≡ outcomes.InWork) ⊎ (o ≡ outcomes.Impossible) → Settles o m → m ≡ SettledImpossible
 settled_none outcomes.InWork h s = absurd s
-settled_none outcomes.Flow h s = absurd (h refl)
+settled_none outcomes.Flow h s = ⊎_elim (λ e. absurd (let z : ◌≡◌ {A = ℕ} 0 1 = cc in omega arith)) (λ e. absurd (let z : ◌≡◌ {A = ℕ} 0 1 = cc in omega arith)) h
 settled_none outcomes.Impossible h s = s
 
 module _ (n a k low high : ℕ) (ls : List Line) (aim : Aim) (number : aim_numbered a ≡ Some aim) (list : test_list n ls None ≡ None) (limits : test_trial (length ls) k low high ≡ None) where
@@ -68,58 +69,23 @@ module _ (n a k low high : ℕ) (ls : List Line) (aim : Aim) (number : aim_numbe
         (f, subst (λ (P : Plant). Best aim P f) same_plant b₁, ap (λ (P : Plant). plants.total P f) (sym same_plant) ∙ t)
 
     -- or no flow is feasible
-    pub none_tried : (o ≡ outcomes.Flow → ⊥) → BestTotal aim (with_limits (record { junctions = n; lines = ls }) k low high) None
+    pub none_tried : (o ≡ outcomes.InWork) ⊎ (o ≡ outcomes.Impossible) → BestTotal aim (with_limits (record { junctions = n; lines = ls }) k low high) None
     none_tried h = subst (λ (P : Plant). (f : Flow) → Feasible P f → ⊥) same_plant (stuck_none holds p' sound (settled_none o h done.settles))
 
 -- each trial of a list that passes its tests passes them
-pub each_passes : (m : ℕ) (ts : List Trial) (i : ℕ) → test_each m ts ≡ None → i < length ts → test_trial m (get_or ts i no_trial).line (get_or ts i no_trial).low (get_or ts i no_trial).high ≡ None
-each_passes m [] i e h = absurd (omega arith)
-each_passes m (t ∷ ts) zero e h = (first_passes (test_trial m t.line t.low t.high) (test_each m ts) e).0
-  where
-    first_passes : (o on : Option Decline) → then_test o on ≡ None → (o ≡ None) × (on ≡ None)
-    first_passes None on e = (refl, e)
-    first_passes (Some d) on e = absurd (let z : ◌≡◌ {A = ℕ} 0 1 = cc in omega arith)
-each_passes m (t ∷ ts) (suc i) e h = each_passes m ts i (rest_passes (test_trial m t.line t.low t.high) (test_each m ts) e) (omega arith)
-  where
-    rest_passes : (o on : Option Decline) → then_test o on ≡ None → on ≡ None
-    rest_passes None on e = e
-    rest_passes (Some d) on e = absurd (let z : ◌≡◌ {A = ℕ} 0 1 = cc in omega arith)
+pub one_passes : (m : ℕ) (xs : List Trial) (t : Trial) (rest : List Trial) → test_each m (xs ++ t ∷ rest) ≡ None → test_trial m t.line t.low t.high ≡ None
+one_passes m [] t rest e = (both_pass (test_trial m t.line t.low t.high) (test_each m rest) e).0
+one_passes m (x ∷ xs) t rest e = one_passes m xs t rest (both_pass (test_trial m x.line x.low x.high) (test_each m (xs ++ t ∷ rest)) e).1
 
--- the first of what waits is the next of the file
-pub next_taken : (ts : List Trial) (k : ℕ) (t : Trial) (rest : List Trial) → drop k ts ≡ t ∷ rest → (k < length ts) × (get_or ts k no_trial ≡ t) × (rest ≡ drop (k + 1) ts)
-next_taken ts k t rest e =
-    ⊎_elim (λ (l : k < length ts). let m = drop_more ts k no_trial l in (l, head_same _ _ _ _ (sym m ∙ e), sym (tail_same _ _ _ _ (sym m ∙ e))))
-    (λ (l : length ts ≤ k). let n = drop_all k ts l in absurd (omega (arith, ap length n, ap length e)))
-    (order k (length ts))
-  where
-    head_same : (x y : Trial) (xs ys : List Trial) → x ∷ xs ≡ y ∷ ys → x ≡ y
-    head_same x y xs ys q = cc
-
-    tail_same : (x y : Trial) (xs ys : List Trial) → x ∷ xs ≡ y ∷ ys → xs ≡ ys
-    tail_same x y xs ys q = cc
-
-pub next_passes : (ls ls' : List Line) (ts : List Trial) (k : ℕ) (t : Trial) → ls' ≡ ls → test_each (length ls) ts ≡ None → k < length ts → get_or ts k no_trial ≡ t
-    → test_trial (length ls') t.line t.low t.high ≡ None
-next_passes ls ls' ts k t same e l is =
-    ap (λ (ms : List Line). test_trial (length ms) t.line t.low t.high) same
-    ∙ ap (λ (x : Trial). test_trial (length ls) x.line x.low x.high) (sym is) ∙ each_passes (length ls) ts k e l
-
--- it was tried on the lines of the file
-pub next_tried : (aim : Aim) (n : ℕ) (ls ls' : List Line) (ts : List Trial) (k : ℕ) (t : Trial) (r : Tried) → ls' ≡ ls → get_or ts k no_trial ≡ t
-    → TriedOne aim (record { junctions = n; lines = ls' }) t r → TriedOne aim (record { junctions = n; lines = ls }) (get_or ts k no_trial) r
-next_tried aim n ls ls' ts k t r same is h =
-    subst (λ (x : Trial). TriedOne aim (record { junctions = n; lines = ls }) x r) (sym is) (subst (λ (ms : List Line). TriedOne aim (record { junctions = n; lines = ms }) t r) same h)
-
--- nothing waits any more
-pub none_left : (ts : List Trial) (k : ℕ) → drop k ts ≡ [] → k ≤ length ts → k ≡ length ts
-none_left ts k e h = omega (arith, ap length e, length-drop k ts)
-
--- the trials that were made, in the front of their places
-pub all_tried : (aim : Aim) (P : Plant) (ts : List Trial) (rs : List Tried) → length ts ≤ 64 → length ts ≤ length rs
-    → ((i : ℕ) → i < length ts → TriedOne aim P (get_or ts i no_trial) (get_or rs i nothing) × Sized (get_or rs i nothing))
-    → TriedAll aim P ts (take (length ts) rs) × SmallTrials (take (length ts) rs)
-all_tried aim P ts rs few l h =
-    let n = length-take-le (length ts) rs l in (
-      record { count = n; each = λ i j. subst (TriedOne aim P (get_or ts i no_trial)) (sym (get_or-take (length ts) rs i nothing j)) (h i j).0 },
-      (omega (arith, n), λ i j. let k : i < length ts = omega (arith, n) in subst (λ (t : Tried). Sized t) (sym (get_or-take (length ts) rs i nothing k)) (h i k).1),
-    )
+-- one trial more that was tried
+pub tried_more : (aim : Aim) (P : Plant) (ts : List Trial) (rs : List Tried) (t : Trial) (r : Tried) → TriedAll aim P ts rs → TriedOne aim P t r → TriedAll aim P (ts ++ t ∷ []) (rs ++ r ∷ [])
+tried_more aim P ts rs t r all one =
+    let n = length-append ts (t ∷ []) in
+    let m = length-append rs (r ∷ []) in
+    record {
+      count = omega (arith, all.count);
+      each = λ i l. each_more (λ k y. TriedOne aim P (get_or (ts ++ t ∷ []) k no_trial) y) rs nothing r
+          (λ k h. subst (λ x. TriedOne aim P x (get_or rs k nothing)) (sym (get_or_append_left ts (t ∷ []) no_trial k (omega (arith, all.count)))) (all.each k (omega (arith, all.count))))
+          (subst (λ x. TriedOne aim P x r) (sym (get_or_at ts t [] no_trial (length rs) (sym all.count))) one)
+          i (omega (arith, all.count));
+    }

@@ -10,11 +10,17 @@ use Rattle.plantfile.specs.declared.reader.Heading.{Heading}
 use Rattle.plantfile.specs.declared.reader.Trial.{Trial}
 use Rattle.plantfile.specs.Format.{Content}
 use Rattle.plantfile.specs.Writing.{test_each}
+use Rattle.ring.specs.Held.{items}
+use Rattle.sheet_text.specs.declared.trials.Question.{Question}
 use Rattle.sheet_text.specs.Sheets.{plant_told}
 
 -- what was read: the heading, the lines, the trials that wait
 abbrev pub content : Heading → List Line → List Trial → Content
 content h ls ts = record { junctions = h.n; lines = ls; trials = ts; aim = h.aim }
+
+-- what a question tells
+abbrev pub asked : Question → Content
+asked q = content q.heading q.lines.now (items q.waiting.now)
 
 -- it passed its tests
 pub record Ready (c : Content) : Type 0 where

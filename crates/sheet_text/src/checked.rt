@@ -1,26 +1,12 @@
 //! A plant file that is read and tested.
 ghost use Rattle.std.specs.Prelude.{◌≡◌, ◌≤◌, [], take, IfOk, Ok, Err, MatchResult};
-ghost use Rattle.plant.specs.Tests.{pass};
-ghost use Rattle.plantfile.specs.Writing.{test_each};
 ghost use Rattle.ring.specs.Held.{items, room};
 ghost use Rattle.sheet_text.specs.Sheets.{checked};
 ghost use Rattle.sheet_text.specs.Steps.{Ready, content};
 
-use plant::{Decline, Line, MAX_LINES, test_list, test_trial};
-use plantfile::{Heading, Trial, read_file};
+use plant::{Decline, Line, MAX_LINES, test_list};
+use plantfile::{Heading, Trial, read_file, test_each};
 use ring::Queue;
-
-// The tests of the trials that wait, in their order.
-fn test_trials(count: usize, waiting: &Queue<Trial>) -> Result<(), Decline>
-    ensures { result ≡ pass (test_each count (items waiting.now)) }
-{
-    for i in 0..waiting.len() {
-        if let Some(trial) = waiting.nth(i) {
-            test_trial(count, trial.line, trial.low, trial.high)?;
-        }
-    }
-    Ok(())
-}
 
 // Reads a file, and tests its list and then its trials.
 pub(super) fn read_checked(
@@ -38,7 +24,7 @@ pub(super) fn read_checked(
     if count > MAX_LINES {
         return Err(Decline::LineCount);
     }
-    test_list(heading.n, &lines[0..count])?;
-    test_trials(count, waiting)?;
+    test_list(heading.n, &lines[..count])?;
+    test_each(count, waiting.iter())?;
     Ok(heading)
 }

@@ -2,19 +2,18 @@
 ghost use Rattle.std.specs.Prelude.{◌≡◌, ◌<◌, ◌≤◌, length, IfOk, MatchResult};
 ghost use Rattle.plant.specs.declared.decline.Decline.TheVariants.{BufferLength};
 ghost use Rattle.planner.specs.declared.machine.State.TheVariants.{SettledFlow, SettledImpossible};
-ghost use Rattle.ring.specs.Held.{items};
 ghost use Rattle.sheet_text.specs.Sheets.{Listed, ListedNumber, Shown, Texted, checked};
-ghost use Rattle.sheet_text.specs.Steps.{Asks, Ready, content};
+ghost use Rattle.sheet_text.specs.Steps.{Asks, Ready, asked};
 
 use super::checked::read_checked;
 use super::readings::{read_cut, read_flows, read_hurdle, read_total, settle};
-use super::trials::try_all;
+use super::trials::Question;
 use chooser::Fifo;
 use planner::{Outcome, Planner, Side};
-use plant::{BLANK_LINE, Decline, Line, MAX_LINES};
-use plantfile::{BLANK_TRIAL, Heading, MAX_TRIALS, Trial};
+use plant::{BLANK_LINE, Decline, MAX_LINES};
+use plantfile::{BLANK_TRIAL, MAX_TRIALS};
 use ring::Queue;
-use text::{NOTHING_TRIED, put_declined, put_flow_sheet, put_hurdle_sheet};
+use text::{FlowSheet, HurdleSheet, put_declined};
 
 /// A buffer of this length has room for every sheet.
 pub const SHEET_LEN: usize = 16_384;
@@ -29,59 +28,51 @@ fn expect_room(out: &[u8]) -> Result<(), Decline>
     Ok(())
 }
 
-// The listing of a plant that has a flow.
-fn list_flow(
-    planner: &mut Planner<Fifo>,
-    heading: &Heading,
-    lines: &mut [Line],
-    waiting: &mut Queue<Trial>,
-    out: &mut [u8],
-) -> Result<usize, Decline>
-    requires settled { planner.old.state ≡ SettledFlow }
-    requires asks { Asks (content heading.now lines.old (items waiting.old)) planner.old }
-    requires ready { Ready (content heading.now lines.old (items waiting.old)) }
-    requires room { 16384 ≤ length out.old }
-    ensures { Shown (content heading.now lines.old (items waiting.old)) out.old result out.new }
-{
-    let n = heading.n as usize;
-    let total = read_total(planner)?;
-    let mut flows = [0u32; MAX_LINES];
-    let flows = &mut flows[0..lines.len()];
-    read_flows(planner, flows)?;
-    let near = read_cut(planner, Side::Near)?;
-    let far = read_cut(planner, Side::Far)?;
-    let mut tried = [NOTHING_TRIED; MAX_TRIALS];
-    let count = try_all(planner, heading, lines, waiting, &mut tried)?;
-    Ok(put_flow_sheet(
-        heading.aim,
-        total,
-        flows,
-        &near[0..n],
-        &far[0..n],
-        &tried[0..count],
-        out,
-    ))
-}
+impl Question<'_, '_> {
+    // The listing of a plant that has a flow.
+    fn list_flow(&mut self, out: &mut [u8]) -> Result<usize, Decline>
+        requires settled { self.old.planner.now.state ≡ SettledFlow }
+        requires asks { Asks (asked self.old) self.old.planner.now }
+        requires ready { Ready (asked self.old) }
+        requires room { 16384 ≤ length out.old }
+        ensures { Shown (asked self.old) out.old result out.new }
+    {
+        let n = self.heading.n as usize;
+        let aim = self.heading.aim;
+        let total = read_total(self.planner)?;
+        let flows = read_flows(self.planner, self.lines.len() as u16)?;
+        let near = read_cut(self.planner, Side::Near)?;
+        let far = read_cut(self.planner, Side::Far)?;
+        let tried = self.try_all()?;
+        let sheet = FlowSheet {
+            aim,
+            total,
+            flows: flows.as_slice(),
+            near: &near[..n],
+            far: &far[..n],
+            trials: tried.as_slice(),
+        };
+        Ok(sheet.put(out))
+    }
 
-// The listing of a plant that is impossible.
-fn list_hurdle(
-    planner: &mut Planner<Fifo>,
-    heading: &Heading,
-    lines: &mut [Line],
-    waiting: &mut Queue<Trial>,
-    out: &mut [u8],
-) -> Result<usize, Decline>
-    requires settled { planner.old.state ≡ SettledImpossible }
-    requires asks { Asks (content heading.now lines.old (items waiting.old)) planner.old }
-    requires ready { Ready (content heading.now lines.old (items waiting.old)) }
-    requires room { 16384 ≤ length out.old }
-    ensures { Shown (content heading.now lines.old (items waiting.old)) out.old result out.new }
-{
-    let n = heading.n as usize;
-    let (hurdle, shortfall) = read_hurdle(planner)?;
-    let mut tried = [NOTHING_TRIED; MAX_TRIALS];
-    let count = try_all(planner, heading, lines, waiting, &mut tried)?;
-    Ok(put_hurdle_sheet(shortfall, &hurdle[0..n], &tried[0..count], out))
+    // The listing of a plant that is impossible.
+    fn list_hurdle(&mut self, out: &mut [u8]) -> Result<usize, Decline>
+        requires settled { self.old.planner.now.state ≡ SettledImpossible }
+        requires asks { Asks (asked self.old) self.old.planner.now }
+        requires ready { Ready (asked self.old) }
+        requires room { 16384 ≤ length out.old }
+        ensures { Shown (asked self.old) out.old result out.new }
+    {
+        let n = self.heading.n as usize;
+        let (hurdle, shortfall) = read_hurdle(self.planner)?;
+        let tried = self.try_all()?;
+        let sheet = HurdleSheet {
+            shortfall,
+            hurdle: &hurdle[..n],
+            trials: tried.as_slice(),
+        };
+        Ok(sheet.put(out))
+    }
 }
 
 /// The listing of a plant file, into the front of a buffer of at least 16,384 bytes; answers its length. A file that
@@ -95,13 +86,19 @@ pub fn write_listing(file: &[u8], out: &mut [u8]) -> Result<usize, Decline>
     let mut waiting = Queue::new(&mut places);
     let heading = read_checked(file, &mut lines, &mut waiting)?;
     expect_room(out)?;
-    let count = heading.lines;
-    let lines = &mut lines[0..count];
+    let lines = &mut lines[..heading.lines];
     let mut planner = Planner::new(Fifo::new());
     planner.start(heading.n, lines, heading.aim.number())?;
-    match settle(&mut planner)? {
-        Outcome::Impossible => list_hurdle(&mut planner, &heading, lines, &mut waiting, out),
-        _ => list_flow(&mut planner, &heading, lines, &mut waiting, out),
+    let outcome = settle(&mut planner)?;
+    let mut question = Question {
+        planner: &mut planner,
+        heading,
+        lines,
+        waiting: &waiting,
+    };
+    match outcome {
+        Outcome::Impossible => question.list_hurdle(out),
+        Outcome::InWork | Outcome::Flow => question.list_flow(out),
     }
 }
 
@@ -112,6 +109,7 @@ pub fn write_text(file: &[u8], out: &mut [u8]) -> Result<usize, Decline>
     ensures short { IfOk result (λ len. (len ≤ 16384) × (16384 ≤ length out.new)) }
 {
     expect_room(out)?;
+    // By `unwrap_or_else` the proof does not close: its contract leaves open what the closure writes.
     match write_listing(file, out) {
         Ok(len) => Ok(len),
         Err(decline) => Ok(put_declined(decline, out)),

@@ -1,5 +1,5 @@
 //! A planner is run to the end, and read.
-ghost use Rattle.std.specs.Prelude.{◌≡◌, ℕ, ◌^◌, ◌<◌, ◌≤◌, true, length, take, pos, MatchResult, OnOk, slice_index};
+ghost use Rattle.std.specs.Prelude.{◌≡◌, ℕ, ◌^◌, ◌<◌, true, length, take, pos, IfOk, MatchResult};
 ghost use Rattle.chooser.specs.FifoCalls.{holds};
 ghost use Rattle.plant.specs.Held.{flows_of, marked};
 ghost use Rattle.plant.specs.Plants as plants;
@@ -10,14 +10,14 @@ ghost use Rattle.planner.specs.declared.machine.State.TheVariants.{SettledFlow, 
 ghost use Rattle.planner.specs.Standing.{Sound, arcs_in, plant_in};
 ghost use Rattle.planner.specs.Works.{in_work};
 ghost use Rattle.reach.specs.Sets.{member};
+ghost use Rattle.text.specs.Text.{SmallFlows};
 
+use arrayvec::ArrayVec;
 use chooser::Fifo;
-use planner::{Outcome, Planner, Side};
-use plant::{Decline, Marks};
+use planner::{MAX_WORK, Outcome, Planner, Side};
+use plant::{Decline, MAX_LINES, Marks};
 use reach::JunctionSet;
-
-// The most that one work may ask for.
-const WORK: u32 = 60_000;
+use std::array;
 
 // Works until the question is settled.
 pub(super) fn settle(planner: &mut Planner<Fifo>) -> Result<Outcome, Decline>
@@ -27,7 +27,7 @@ pub(super) fn settle(planner: &mut Planner<Fifo>) -> Result<Outcome, Decline>
     ensures settled { MatchResult result (λ o. Settles o planner.new.state) (λ _. ⊥) }
 {
     loop {
-        match planner.work(WORK)? {
+        match planner.work(MAX_WORK)? {
             (Outcome::InWork, _) => {}
             (outcome, _) => return Ok(outcome),
         }
@@ -43,17 +43,21 @@ pub(super) fn read_total(planner: &Planner<Fifo>) -> Result<u64, Decline>
     Ok(total.unsigned_abs())
 }
 
-// The settled flow, a place for each line.
-pub(super) fn read_flows(planner: &Planner<Fifo>, flows: &mut [u32]) -> Result<(), Decline>
-    requires { (Sound holds planner.now) × ((planner.now.state ≡ SettledFlow) × (length flows.old ≡ length (plant_in planner.now).lines)) }
-    ensures flows { MatchResult result (λ _. flows.new ≡ flows_of (arcs_in planner.now)) (λ _. ⊥) }
-    ensures small { OnOk result ((k : ℕ) → k < length flows.new → slice_index flows.new k ≤ 1000000) }
+// The settled flow of the lines in order.
+pub(super) fn read_flows(
+    planner: &Planner<Fifo>,
+    lines: u16,
+) -> Result<ArrayVec<u32, MAX_LINES>, Decline>
+    requires { (Sound holds planner.now) × (planner.now.state ≡ SettledFlow) × (lines ≡ length (plant_in planner.now).lines) }
+    ensures flows { MatchResult result (λ flows. flows.items ≡ flows_of (arcs_in planner.now)) (λ _. ⊥) }
+    ensures small { IfOk result (λ flows. SmallFlows flows.items) }
 {
-    for k in 0..flows.len() {
-        let flow = planner.flow(k as u16)?;
-        flows[k] = flow;
+    let mut flows = ArrayVec::new();
+    for line in 0..lines {
+        let flow = planner.flow(line)?;
+        flows.push(flow);
     }
-    Ok(())
+    Ok(flows)
 }
 
 // The members of a set as marks.
@@ -61,11 +65,7 @@ fn marks_of(bytes: &[u8; 32]) -> Marks
     ensures { (v : ℕ) → v < 256 → marked result v ≡ member bytes.now v }
 {
     let set = JunctionSet { bytes: *bytes };
-    let mut marks = [false; 256];
-    for v in 0..256usize {
-        marks[v] = set.contains(v as u8);
-    }
-    marks
+    array::from_fn(|v| set.contains(v as u8))
 }
 
 // The near or the far cut of the settled flow, as marks below the number of junctions.

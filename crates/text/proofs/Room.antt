@@ -4,7 +4,7 @@ use Rattle.std.proofs.lemmas.Fmt.{length-decimal-le}
 use Rattle.plant.specs.declared.aim.Aim.{Aim}
 use Rattle.plant.specs.declared.aim.Aim.TheVariants.{Greatest, Least}
 use Rattle.text.specs.declared.sheets.Tried.{Tried}
-use Rattle.text.specs.Text.{each_below, newline, flow_row, marked, member, members, cut_row, total_text, trial_row, head_row, nothing, flow_rows, trial_rows, Sized, SmallFlows, SmallTrials}
+use Rattle.text.specs.Text.{each_below, newline, flow_row, marked, member, members, cut_row, total_text, trial_row, head_row, nothing, declined_text, flow_rows, flow_text, hurdle_text, trial_rows, Sized, SmallFlows, SmallTrials}
 
 below : (f : ℕ → List ℕ) (w n : ℕ) → ((i : ℕ) → i < n → length (f i) ≤ w) → length (each_below n f) ≤ w * n
 below f w zero h = omega arith
@@ -58,23 +58,27 @@ flows_room fs h =
     let b = below (λ i. flow_row i (get_or fs i 0)) 12 (length fs) (λ i lt. row_room i (get_or fs i 0) (omega arith) (h.1 i lt)) in
     omega arith
 
--- 20 + 12000 + 1007 + 1007 + 1472
-pub flow_parts : (aim : Aim) (total : ℕ) (fs : List ℕ) (near far : List Bool) (ts : List Tried) → total < 2 ^ 32 → SmallFlows fs → length near ≤ 250 → length far ≤ 250 → SmallTrials ts →
-    length (head_row aim total) + (length (flow_rows fs) + (length (cut_row (codes "NEAR") near) + (length (cut_row (codes "FAR") far) + length (trial_rows ts)))) ≤ 16384
-flow_parts aim total fs near far ts t f n m s =
-    let a = head_room aim total t in
-    let b = flows_room fs f in
-    let d = cut_room (codes "NEAR") near (omega arith) n in
-    let e = cut_room (codes "FAR") far (omega arith) m in
-    let g = rows_room ts s in
-    omega arith
+pub flow_short : (aim : Aim) (total : ℕ) (fs : List ℕ) (near far : List Bool) (ts : List Tried) → total < 2 ^ 32 → SmallFlows fs → length near ≤ 250 → length far ≤ 250 → SmallTrials ts → length (flow_text aim total fs near far ts) ≤ 16384
+flow_short aim total fs near far ts t f n m s =
+    let one = cut_row (codes "NEAR") near in
+    let two = cut_row (codes "FAR") far in
+    let l0 = length-append (head_row aim total) (flow_rows fs ++ (one ++ (two ++ trial_rows ts))) in
+    let l1 = length-append (flow_rows fs) (one ++ (two ++ trial_rows ts)) in
+    let l2 = length-append one (two ++ trial_rows ts) in
+    let l3 = length-append two (trial_rows ts) in
+    -- 20 + 12000 + 1007 + 1007 + 1472
+    omega (arith, head_room aim total t, flows_room fs f, cut_room (codes "NEAR") near (omega arith) n, cut_room (codes "FAR") far (omega arith) m, rows_room ts s)
 
--- 22 + 1007 + 1472
-pub hurdle_parts : (shortfall : ℕ) (hurdle : List Bool) (ts : List Tried) → shortfall < 2 ^ 32 → length hurdle ≤ 250 → SmallTrials ts →
-    length (codes "IMPOSSIBLE " ++ (decimal shortfall ++ newline)) + (length (cut_row (codes "HURDLE") hurdle) + length (trial_rows ts)) ≤ 16384
-hurdle_parts x hurdle ts t n s =
-    let a = length-decimal-le 10 x (omega arith) (omega arith) (omega arith) in
-    let l0 = length-append (decimal x) newline in
-    let d = cut_room (codes "HURDLE") hurdle (omega arith) n in
-    let g = rows_room ts s in
-    omega arith
+pub hurdle_short : (shortfall : ℕ) (hurdle : List Bool) (ts : List Tried) → shortfall < 2 ^ 32 → length hurdle ≤ 250 → SmallTrials ts → length (hurdle_text shortfall hurdle ts) ≤ 16384
+hurdle_short x hurdle ts t n s =
+    let first = codes "IMPOSSIBLE " ++ (decimal x ++ newline) in
+    let one = cut_row (codes "HURDLE") hurdle in
+    let l0 = length-append first (one ++ trial_rows ts) in
+    let l1 = length-append (decimal x) newline in
+    let l2 = length-append one (trial_rows ts) in
+    -- 22 + 1007 + 1472
+    omega (arith, length-decimal-le 10 x (omega arith) (omega arith) (omega arith), cut_room (codes "HURDLE") hurdle (omega arith) n, rows_room ts s)
+
+-- a number of one byte has three digits at most
+pub declined_short : (n : ℕ) → n < 256 → length (declined_text n) ≤ 13
+declined_short n h = omega (arith, length-append (decimal n) newline, length-decimal-le 3 n (omega arith) (omega arith) (omega arith))

@@ -9,6 +9,10 @@ abbrev pub each_below : ℕ → (ℕ → List ℕ) → List ℕ
 each_below zero f = []
 each_below (suc n) f = each_below n f ++ f n
 
+-- the rows of a list, each by its place, one after another; d stands where there is no item
+abbrev pub rows_of : {A : Type 0} → (ℕ → A → List ℕ) → List A → A → List ℕ
+rows_of f xs d = each_below (length xs) (λ i. f i (slice_index_or xs i d))
+
 abbrev pub blank : List ℕ
 blank = 32 ∷ []
 

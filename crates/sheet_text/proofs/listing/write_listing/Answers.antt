@@ -1,27 +1,15 @@
-use Rattle.std.proofs.Common.{◌≡◌, ℕ, ◌-◌, List, take, Ok, Result, ap, ◌∙◌, subst, arith}
-use Rattle.plant.specs.declared.decline.Decline.{Decline}
-use Rattle.plant.specs.declared.line.Line.{Line}
+use Rattle.std.proofs.Common.{take, subst}
 use Rattle.plant.specs.Tests.{tested}
 use Rattle.planner.specs.Calls.{Settles}
 use Rattle.planner.specs.declared.answer.Outcome.{Outcome}
 use Rattle.planner.proofs.Tried.{not_both}
-use Rattle.plantfile.specs.declared.reader.Heading.{Heading}
-use Rattle.plantfile.specs.declared.reader.Trial.{Trial}
-use Rattle.plantfile.specs.Format.{Content}
 use Rattle.ring.specs.Held.{items}
 use Rattle.std.proofs.lemmas.Result.{err_from_is_err_and}
 use Rattle.sheet_text.specs.Sheets.{checked}
-use Rattle.sheet_text.specs.Steps.{Ready, content}
+use Rattle.sheet_text.specs.Steps.{content}
 use Rattle.sheet_text.proofs.Showing.{all_listed, asks_told, listed_short, settled_flow, short_listed}
 use Rattle.sheet_text.proofs.Testing.{list_tested}
 use Rattle.sheet_text.proofs.listing.write_listing.Goals as goal
-
--- the slice from the first line on
-whole : (h : Heading) (ls : List Line) (ts : List Trial) → Ready (content h (take h.lines ls) ts) → Ready (content h (take (h.lines - 0) ls) ts)
-whole h ls ts r = let z : h.lines ≡ h.lines - 0 = omega arith in subst (λ (i : ℕ). Ready (content h (take i ls) ts)) z r
-
-whole_told : (o : Result Content Decline) (h : Heading) (ls : List Line) (ts : List Trial) → o ≡ Ok (content h (take h.lines ls) ts) → o ≡ Ok (content h (take (h.lines - 0) ls) ts)
-whole_told o h ls ts e = let z : h.lines ≡ h.lines - 0 = omega arith in e ∙ ap (λ (i : ℕ). Ok (content h (take i ls) ts)) z
 
 pub returns-in_err-expect_room : goal.returns-in_err-expect_room
 returns-in_err-expect_room c =
@@ -33,19 +21,19 @@ pub returns-in_err-start : goal.returns-in_err-start
 returns-in_err-start c =
     let h = c.in_ok-heading.heading in
     let ls = c.read_checked.new.lines in
-    let r = whole h ls (items c.read_checked.new.waiting) c.in_ok-heading.ensures.ready.1 in
-    not_both (tested h.n (take (h.lines - 0) ls) c.number.result) h.aim _ (list_tested h.n c.number.result (take (h.lines - 0) ls) h.aim c.number.ensures r.list) c.in_err-start.ensures.starts.0
+    let r = c.in_ok-heading.ensures.ready.1 in
+    not_both (tested h.n (take h.lines ls) c.number.result) h.aim _ (list_tested h.n c.number.result (take h.lines ls) h.aim c.number.ensures r.list) c.in_err-start.ensures.starts.0
 
 pub list_hurdle-requires : goal.list_hurdle-requires
 list_hurdle-requires c =
     let h = c.in_ok-heading.heading in
     let ls = c.read_checked.new.lines in
     let ts = items c.read_checked.new.waiting in
-    let r = whole h ls ts c.in_ok-heading.ensures.ready.1 in
-    let s = c.in_ok-settle.ensures in
+    let r = c.in_ok-heading.ensures.ready.1 in
+    let s = c.in_ok-outcome.ensures in
     record {
       settled = subst (λ (o : Outcome). Settles o c.settle.new.planner.state) c.in-Impossible.is s.settled;
-      asks = asks_told _ _ _ h (take (h.lines - 0) ls) ts c.number.result c.new-planner.result c.start.new.self c.settle.new.planner c.in_ok-start.ensures.starts s.sound s.plant c.number.ensures r.list;
+      asks = asks_told _ _ _ h (take h.lines ls) ts c.number.result c.new-planner.result c.start.new.self c.settle.new.planner c.in_ok-start.ensures.starts s.sound s.plant c.number.ensures r.list;
       ready = r;
       room = c.in_ok-expect_room.ensures;
     }
@@ -55,11 +43,11 @@ list_flow-requires c =
     let h = c.in_ok-heading.heading in
     let ls = c.read_checked.new.lines in
     let ts = items c.read_checked.new.waiting in
-    let r = whole h ls ts c.in_ok-heading.ensures.ready.1 in
-    let s = c.in_ok-settle.ensures in
+    let r = c.in_ok-heading.ensures.ready.1 in
+    let s = c.in_ok-outcome.ensures in
     record {
-      settled = settled_flow c.in_ok-settle.field-0 c.settle.new.planner.state c.in_default.not-Impossible s.settled;
-      asks = asks_told _ _ _ h (take (h.lines - 0) ls) ts c.number.result c.new-planner.result c.start.new.self c.settle.new.planner c.in_ok-start.ensures.starts s.sound s.plant c.number.ensures r.list;
+      settled = settled_flow c.in_ok-outcome.outcome c.settle.new.planner.state c.in-InWork.is s.settled;
+      asks = asks_told _ _ _ h (take h.lines ls) ts c.number.result c.new-planner.result c.start.new.self c.settle.new.planner c.in_ok-start.ensures.starts s.sound s.plant c.number.ensures r.list;
       ready = r;
       room = c.in_ok-expect_room.ensures;
     }
@@ -69,15 +57,15 @@ returns-in-Impossible c =
     let h = c.in_ok-heading.heading in
     let ls = c.read_checked.new.lines in
     let ts = items c.read_checked.new.waiting in
-    let told = whole_told (checked c.args.file.now) h ls ts c.in_ok-heading.ensures.told in
-    let listed = all_listed c.args.out.now c.list_hurdle.new.out (checked c.args.file.now) (content h (take (h.lines - 0) ls) ts) c.list_hurdle.result told c.in_ok-expect_room.ensures c.list_hurdle.ensures in
+    let told = c.in_ok-heading.ensures.told in
+    let listed = all_listed c.args.out.now c.list_hurdle.new.out (checked c.args.file.now) (content h (take h.lines ls) ts) c.list_hurdle.result told c.in_ok-expect_room.ensures c.list_hurdle.ensures in
     record { listed = listed; short = listed_short c.args.out.now c.list_hurdle.new.out (checked c.args.file.now) c.list_hurdle.result c.in_ok-expect_room.ensures listed }
 
-pub returns-in_default : goal.returns-in_default
-returns-in_default c =
+pub returns-in-InWork : goal.returns-in-InWork
+returns-in-InWork c =
     let h = c.in_ok-heading.heading in
     let ls = c.read_checked.new.lines in
     let ts = items c.read_checked.new.waiting in
-    let told = whole_told (checked c.args.file.now) h ls ts c.in_ok-heading.ensures.told in
-    let listed = all_listed c.args.out.now c.list_flow.new.out (checked c.args.file.now) (content h (take (h.lines - 0) ls) ts) c.list_flow.result told c.in_ok-expect_room.ensures c.list_flow.ensures in
+    let told = c.in_ok-heading.ensures.told in
+    let listed = all_listed c.args.out.now c.list_flow.new.out (checked c.args.file.now) (content h (take h.lines ls) ts) c.list_flow.result told c.in_ok-expect_room.ensures c.list_flow.ensures in
     record { listed = listed; short = listed_short c.args.out.now c.list_flow.new.out (checked c.args.file.now) c.list_flow.result c.in_ok-expect_room.ensures listed }

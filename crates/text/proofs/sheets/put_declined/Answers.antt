@@ -1,21 +1,30 @@
-use Rattle.std.proofs.Common.{ℕ, ◌<◌, ◌≤◌, length, decimal, ap, arith, rules}
-use Rattle.std.proofs.lemmas.Fmt.{length-decimal-le}
-use Rattle.text.specs.Text.{declined_text}
-use Rattle.text.proofs.Paste.{then_puts, same_text}
+use Rattle.std.proofs.Common.{◌++◌, ◌≤◌, ℕ, rules, decimal, length, ap, subst, arith}
+use Rattle.plant.specs.Numbers.{number_of}
+use Rattle.text.specs.Pieces.{Adds, room}
+use Rattle.text.specs.Text.{declined_text, newline}
+use Rattle.text.proofs.Paste.{begin_ends, first_fits, next_fits, then_adds}
+use Rattle.text.proofs.Room.{declined_short}
 use Rattle.text.proofs.sheets.put_declined.Goals as goal
 
--- a number of one byte has three digits at most
-short : (n : ℕ) → n < 256 → length (decimal n) ≤ 3
-short n h = length-decimal-le 3 n (omega arith) (omega arith) (omega arith)
+pub put_number-requires : goal.put_number-requires
+put_number-requires c =
+    let n = c.number.result in
+    let fits : length (declined_text n) ≤ room c.new-page.result = omega (arith, c.requires, declined_short n c.number.type_inv, c.new-page.ensures.begins.at, ap length c.new-page.ensures.begins.out) in
+    first_fits (decimal n) newline (next_fits (decimal n ++ newline) fits c.put.ensures)
 
-pub put_number-at-requires : goal.put_number-at-requires
-put_number-at-requires c = let b : c.number.result < 256 = search rules in omega (arith, short c.number.result b, c.put-at.ensures.end)
+pub put-requires-2 : goal.put-requires-2
+put-requires-2 c =
+    let n = c.number.result in
+    let fits : length (declined_text n) ≤ room c.new-page.result = omega (arith, c.requires, declined_short n c.number.type_inv, c.new-page.ensures.begins.at, ap length c.new-page.ensures.begins.out) in
+    next_fits newline (next_fits (decimal n ++ newline) fits c.put.ensures) c.put_number.ensures
 
-pub put-requires : goal.put-requires
-put-requires c = let b : c.number.result < 256 = search rules in omega (arith, short c.number.result b, c.put-at.ensures.end, c.put_number-at.ensures.end)
+pub returns-clause-short : goal.returns-clause-short
+returns-clause-short c =
+    let text = then_adds c.put.ensures (then_adds c.put_number.ensures c.put-2.ensures) in
+    omega (arith, begin_ends c.new-page.ensures.begins text, declined_short c.number.result c.number.type_inv)
 
-pub returns : goal.returns
-returns c =
-    let b : c.number.result < 256 = search rules in
-    let l = short c.number.result b in
-    record { short = omega (arith, c.put.ensures.end, c.put_number-at.ensures.end, c.put-at.ensures.end); text = same_text (ap declined_text c.number.ensures) (then_puts c.put-at.ensures (then_puts c.put_number-at.ensures c.put.ensures (omega arith)) (omega arith)) }
+pub returns-clause-text : goal.returns-clause-text
+returns-clause-text c =
+    let text = then_adds c.put.ensures (then_adds c.put_number.ensures c.put-2.ensures) in
+    let is : Adds (declined_text (number_of c.args.decline)) c.new-page.result c.put-2.new.self = subst (λ (n : ℕ). Adds (declined_text n) c.new-page.result c.put-2.new.self) c.number.ensures text in
+    search rules

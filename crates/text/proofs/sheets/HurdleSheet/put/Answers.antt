@@ -1,0 +1,16 @@
+use Rattle.std.proofs.Common.{arith}
+use Rattle.text.proofs.Paste.{begin_ends, begin_fits}
+use Rattle.text.proofs.Room.{hurdle_short}
+use Rattle.text.proofs.sheets.HurdleSheet.put.Goals as goal
+
+pub put_on-requires : goal.put_on-requires
+put_on-requires c =
+    let s = c.args.self.now in
+    let r = c.requires in
+    begin_fits c.new-page.ensures.begins r.room (hurdle_short s.shortfall s.hurdle.now s.trials.now r.shortfall r.hurdle r.trials)
+
+pub returns-clause-short : goal.returns-clause-short
+returns-clause-short c =
+    let s = c.args.self.now in
+    let r = c.requires in
+    omega (arith, begin_ends c.new-page.ensures.begins c.put_on.ensures, hurdle_short s.shortfall s.hurdle.now s.trials.now r.shortfall r.hurdle r.trials)
