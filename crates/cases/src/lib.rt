@@ -8,19 +8,9 @@ mod tests {
     use plant::{Decline, Line};
     use plantfile::Trial;
     use sheet_text::{SHEET_LEN, widgulp_listing, write_listing, write_text};
-    use std::alloc::AllocError;
+    use std::alloc::{AllocError, Global};
     use std::process::Abort;
     use std::test::Fail;
-
-    // A plant file and the sheet that it gives.
-    #[derive(Clone, Copy, Drop)]
-    struct Case {
-        n: u8,
-        lines: &'static [Line],
-        trials: &'static [Trial],
-        aim: u8,
-        sheet: &'static [u8],
-    }
 
     fn line(from: u8, to: u8, low: u32, high: u32) -> Line {
         Line {
@@ -35,519 +25,218 @@ mod tests {
         Trial { line, low, high }
     }
 
-    fn push_all(file: &mut Vec<u8>, bytes: &[u8]) -> Result<(), AllocError> {
-        for b in bytes {
-            file.push(*b)?;
-        }
-        Ok(())
-    }
-
     fn push_line(file: &mut Vec<u8>, line: &Line) -> Result<(), AllocError> {
-        push_all(file, &[b'L', line.from, line.to])?;
-        push_all(file, &line.low.to_be_bytes())?;
-        push_all(file, &line.high.to_be_bytes())
+        file.extend_from_slice(&[b'L', line.from, line.to])?;
+        file.extend_from_slice(&line.low.to_be_bytes())?;
+        file.extend_from_slice(&line.high.to_be_bytes())
     }
 
     fn push_trial(file: &mut Vec<u8>, trial: &Trial) -> Result<(), AllocError> {
-        push_all(file, &[b'T'])?;
-        push_all(file, &trial.line.to_be_bytes())?;
-        push_all(file, &trial.low.to_be_bytes())?;
-        push_all(file, &trial.high.to_be_bytes())
+        file.push(b'T')?;
+        file.extend_from_slice(&trial.line.to_be_bytes())?;
+        file.extend_from_slice(&trial.low.to_be_bytes())?;
+        file.extend_from_slice(&trial.high.to_be_bytes())
     }
 
-    fn push_case(file: &mut Vec<u8>, case: &Case) -> Result<(), AllocError> {
-        push_all(file, &[b'N', case.n])?;
-        for line in case.lines {
-            push_line(file, line)?;
+    // A plant file up to its aim.
+    fn open_file(
+        heap: Global,
+        n: u8,
+        lines: &[Line],
+        trials: &[Trial],
+    ) -> Result<Vec<u8>, AllocError> {
+        let mut file = vec![in heap; b'N', n]?;
+        for line in lines {
+            push_line(&mut file, line)?;
         }
-        for trial in case.trials {
-            push_trial(file, trial)?;
+        for trial in trials {
+            push_trial(&mut file, trial)?;
         }
-        push_all(file, &[case.aim])
+        Ok(file)
     }
 
     // The bytes of a file give this text.
     fn check_text(rt: &impl Abort, file: &[u8], text: &[u8]) -> Result<(), Fail> {
         let mut out = [7u8; SHEET_LEN];
         let len = write_text(file, &mut out)?;
-        assert!(rt; &out[0..len] == text);
+        assert!(rt; &out[..len] == text);
         Ok(())
     }
-
-    // The single line, the series pair, the four-junction plant and the impossible pair, with their trials.
-    const ONE: [Line; 1] = [Line {
-        from: 0,
-        to: 1,
-        low: 4,
-        high: 9,
-    }];
-
-    const ONES: [Trial; 2] = [
-        Trial {
-            line: 0,
-            low: 3,
-            high: 9,
-        },
-        Trial {
-            line: 0,
-            low: 4,
-            high: 10,
-        },
-    ];
-
-    const PAIR: [Line; 2] = [
-        Line {
-            from: 0,
-            to: 2,
-            low: 0,
-            high: 3,
-        },
-        Line {
-            from: 2,
-            to: 1,
-            low: 0,
-            high: 3,
-        },
-    ];
-
-    const PAIRS: [Trial; 1] = [Trial {
-        line: 0,
-        low: 0,
-        high: 4,
-    }];
-
-    const FOUR: [Line; 4] = [
-        Line {
-            from: 0,
-            to: 2,
-            low: 2,
-            high: 6,
-        },
-        Line {
-            from: 2,
-            to: 3,
-            low: 0,
-            high: 4,
-        },
-        Line {
-            from: 3,
-            to: 1,
-            low: 1,
-            high: 5,
-        },
-        Line {
-            from: 2,
-            to: 1,
-            low: 0,
-            high: 1,
-        },
-    ];
-
-    const FOURS: [Trial; 3] = [
-        Trial {
-            line: 1,
-            low: 0,
-            high: 5,
-        },
-        Trial {
-            line: 0,
-            low: 2,
-            high: 7,
-        },
-        Trial {
-            line: 0,
-            low: 1,
-            high: 6,
-        },
-    ];
-
-    const BAD: [Trial; 1] = [Trial {
-        line: 3,
-        low: 1,
-        high: 0,
-    }];
-
-    const SHORT: [Line; 2] = [
-        Line {
-            from: 0,
-            to: 2,
-            low: 0,
-            high: 2,
-        },
-        Line {
-            from: 2,
-            to: 1,
-            low: 3,
-            high: 5,
-        },
-    ];
-
-    const SHORTS: [Trial; 2] = [
-        Trial {
-            line: 0,
-            low: 0,
-            high: 3,
-        },
-        Trial {
-            line: 0,
-            low: 0,
-            high: 1,
-        },
-    ];
 
     #[test]
     fn worked_plants(rt: HostRuntime) -> Result<(), Fail> {
-        let cases = [
-            Case {
-                n: 2,
-                lines: &[],
-                trials: &[],
-                aim: b'G',
-                sheet: b"GREATEST 0\nNEAR 0\nFAR 0\n",
-            },
-            Case {
-                n: 2,
-                lines: &[],
-                trials: &[],
-                aim: b'M',
-                sheet: b"LEAST 0\nNEAR 0\nFAR 0\n",
-            },
-            Case {
-                n: 2,
-                lines: &ONE,
-                trials: &ONES,
-                aim: b'G',
-                sheet: b"GREATEST 9\n0 9\nNEAR 0\nFAR 0\nTRIAL 0 9\nTRIAL 0 10\n",
-            },
-            Case {
-                n: 2,
-                lines: &ONE,
-                trials: &ONES,
-                aim: b'M',
-                sheet: b"LEAST 4\n0 4\nNEAR 0\nFAR 0\nTRIAL 0 3\nTRIAL 0 4\n",
-            },
-            Case {
-                n: 3,
-                lines: &[],
-                trials: &[],
-                aim: b'G',
-                sheet: b"GREATEST 0\nNEAR 0\nFAR 0 2\n",
-            },
-            Case {
-                n: 3,
-                lines: &[],
-                trials: &[],
-                aim: b'M',
-                sheet: b"LEAST 0\nNEAR 0\nFAR 0 2\n",
-            },
-            Case {
-                n: 3,
-                lines: &PAIR,
-                trials: &PAIRS,
-                aim: b'G',
-                sheet: b"GREATEST 3\n0 3\n1 3\nNEAR 0\nFAR 0 2\nTRIAL 0 3\n",
-            },
-            Case {
-                n: 3,
-                lines: &PAIR,
-                trials: &PAIRS,
-                aim: b'M',
-                sheet: b"LEAST 0\n0 0\n1 0\nNEAR 0\nFAR 0 2\nTRIAL 0 0\n",
-            },
-            Case {
-                n: 4,
-                lines: &FOUR,
-                trials: &FOURS,
-                aim: b'G',
-                sheet: b"GREATEST 5\n0 5\n1 4\n2 4\n3 1\nNEAR 0 2\nFAR 0 2\nTRIAL 1 6\nTRIAL 0 5\nTRIAL 0 5\n",
-            },
-            Case {
-                n: 4,
-                lines: &FOUR,
-                trials: &FOURS,
-                aim: b'M',
-                sheet: b"LEAST 2\n0 2\n1 2\n2 2\n3 0\nNEAR 0\nFAR 0\nTRIAL 1 2\nTRIAL 0 2\nTRIAL 0 1\n",
-            },
-            Case {
-                n: 3,
-                lines: &SHORT,
-                trials: &SHORTS,
-                aim: b'G',
-                sheet: b"IMPOSSIBLE 1\nHURDLE 0 1\nTRIAL 0 3\nTRIAL 0 NONE\n",
-            },
-            Case {
-                n: 3,
-                lines: &SHORT,
-                trials: &SHORTS,
-                aim: b'M',
-                sheet: b"IMPOSSIBLE 1\nHURDLE 0 1\nTRIAL 0 3\nTRIAL 0 NONE\n",
-            },
-            Case {
-                n: 4,
-                lines: &FOUR,
-                trials: &BAD,
-                aim: b'M',
-                sheet: b"DECLINED 6\n",
-            },
+        // The single line, the series pair, the four-junction plant and the impossible pair, with their trials.
+        let one = [line(0, 1, 4, 9)];
+        let ones = [trial(0, 3, 9), trial(0, 4, 10)];
+        let pair = [line(0, 2, 0, 3), line(2, 1, 0, 3)];
+        let pairs = [trial(0, 0, 4)];
+        let four = [
+            line(0, 2, 2, 6),
+            line(2, 3, 0, 4),
+            line(3, 1, 1, 5),
+            line(2, 1, 0, 1),
         ];
-        for case in &cases {
-            let mut file = Vec::new(rt.alloc());
-            push_case(&mut file, case)?;
-            check_text(&rt, file.as_slice(), case.sheet)?;
+        let fours = [trial(1, 0, 5), trial(0, 2, 7), trial(0, 1, 6)];
+        let bad = [trial(3, 1, 0)];
+        let short = [line(0, 2, 0, 2), line(2, 1, 3, 5)];
+        let shorts = [trial(0, 0, 3), trial(0, 0, 1)];
+        let cases: &[(u8, &[Line], &[Trial], u8, &[u8])] = &[
+            (2, &[], &[], b'G', b"GREATEST 0\nNEAR 0\nFAR 0\n"),
+            (2, &[], &[], b'M', b"LEAST 0\nNEAR 0\nFAR 0\n"),
+            (
+                2,
+                &one,
+                &ones,
+                b'G',
+                b"GREATEST 9\n0 9\nNEAR 0\nFAR 0\nTRIAL 0 9\nTRIAL 0 10\n",
+            ),
+            (
+                2,
+                &one,
+                &ones,
+                b'M',
+                b"LEAST 4\n0 4\nNEAR 0\nFAR 0\nTRIAL 0 3\nTRIAL 0 4\n",
+            ),
+            (3, &[], &[], b'G', b"GREATEST 0\nNEAR 0\nFAR 0 2\n"),
+            (3, &[], &[], b'M', b"LEAST 0\nNEAR 0\nFAR 0 2\n"),
+            (
+                3,
+                &pair,
+                &pairs,
+                b'G',
+                b"GREATEST 3\n0 3\n1 3\nNEAR 0\nFAR 0 2\nTRIAL 0 3\n",
+            ),
+            (
+                3,
+                &pair,
+                &pairs,
+                b'M',
+                b"LEAST 0\n0 0\n1 0\nNEAR 0\nFAR 0 2\nTRIAL 0 0\n",
+            ),
+            (
+                4,
+                &four,
+                &fours,
+                b'G',
+                b"GREATEST 5\n0 5\n1 4\n2 4\n3 1\nNEAR 0 2\nFAR 0 2\nTRIAL 1 6\nTRIAL 0 5\nTRIAL 0 5\n",
+            ),
+            (
+                4,
+                &four,
+                &fours,
+                b'M',
+                b"LEAST 2\n0 2\n1 2\n2 2\n3 0\nNEAR 0\nFAR 0\nTRIAL 1 2\nTRIAL 0 2\nTRIAL 0 1\n",
+            ),
+            (
+                3,
+                &short,
+                &shorts,
+                b'G',
+                b"IMPOSSIBLE 1\nHURDLE 0 1\nTRIAL 0 3\nTRIAL 0 NONE\n",
+            ),
+            (
+                3,
+                &short,
+                &shorts,
+                b'M',
+                b"IMPOSSIBLE 1\nHURDLE 0 1\nTRIAL 0 3\nTRIAL 0 NONE\n",
+            ),
+            (4, &four, &bad, b'M', b"DECLINED 6\n"),
+        ];
+        for &(n, lines, trials, aim, sheet) in cases {
+            let mut file = open_file(rt.alloc(), n, lines, trials)?;
+            file.push(aim)?;
+            check_text(&rt, &file, sheet)?;
         }
         Ok(())
     }
 
-    // One list, and by which number its file is declined; 0 where it is not.
-    #[derive(Clone, Copy)]
-    struct Edge {
-        n: u8,
-        line: Line,
-        number: u8,
-    }
-
-    fn number_of(file: &[u8]) -> u8 {
+    // Why a file is declined, if it is.
+    fn refusal(file: &[u8]) -> Option<Decline> {
         let mut out = [0u8; SHEET_LEN];
-        match write_listing(file, &mut out) {
-            Ok(_) => 0,
-            Err(decline) => decline.number(),
-        }
+        write_listing(file, &mut out).err()
     }
 
     #[test]
     fn edges_of_a_line(rt: HostRuntime) -> Result<(), Fail> {
         let edges = [
-            Edge {
-                n: 0,
-                line: line(0, 1, 0, 1),
-                number: 2,
-            },
-            Edge {
-                n: 1,
-                line: line(0, 1, 0, 1),
-                number: 2,
-            },
-            Edge {
-                n: 2,
-                line: line(0, 1, 0, 1),
-                number: 0,
-            },
-            Edge {
-                n: 250,
-                line: line(0, 249, 0, 1),
-                number: 0,
-            },
-            Edge {
-                n: 251,
-                line: line(0, 249, 0, 1),
-                number: 2,
-            },
-            Edge {
-                n: 255,
-                line: line(0, 249, 0, 1),
-                number: 2,
-            },
-            Edge {
-                n: 250,
-                line: line(0, 250, 0, 1),
-                number: 4,
-            },
-            Edge {
-                n: 250,
-                line: line(250, 1, 0, 1),
-                number: 4,
-            },
-            Edge {
-                n: 4,
-                line: line(2, 2, 0, 1),
-                number: 4,
-            },
-            Edge {
-                n: 4,
-                line: line(1, 1, 0, 1),
-                number: 4,
-            },
-            Edge {
-                n: 4,
-                line: line(2, 0, 0, 1),
-                number: 5,
-            },
-            Edge {
-                n: 4,
-                line: line(1, 2, 0, 1),
-                number: 5,
-            },
-            Edge {
-                n: 4,
-                line: line(2, 3, 1, 0),
-                number: 6,
-            },
-            Edge {
-                n: 4,
-                line: line(0, 1, 0, 1_000_000),
-                number: 0,
-            },
-            Edge {
-                n: 4,
-                line: line(0, 1, 0, 1_000_001),
-                number: 6,
-            },
-            Edge {
-                n: 4,
-                line: line(1, 0, 1, 0),
-                number: 5,
-            },
+            (0, line(0, 1, 0, 1), Some(Decline::JunctionCount)),
+            (1, line(0, 1, 0, 1), Some(Decline::JunctionCount)),
+            (2, line(0, 1, 0, 1), None),
+            (250, line(0, 249, 0, 1), None),
+            (251, line(0, 249, 0, 1), Some(Decline::JunctionCount)),
+            (255, line(0, 249, 0, 1), Some(Decline::JunctionCount)),
+            (250, line(0, 250, 0, 1), Some(Decline::LineEnds)),
+            (250, line(250, 1, 0, 1), Some(Decline::LineEnds)),
+            (4, line(2, 2, 0, 1), Some(Decline::LineEnds)),
+            (4, line(1, 1, 0, 1), Some(Decline::LineEnds)),
+            (4, line(2, 0, 0, 1), Some(Decline::LineDirection)),
+            (4, line(1, 2, 0, 1), Some(Decline::LineDirection)),
+            (4, line(2, 3, 1, 0), Some(Decline::LineLimits)),
+            (4, line(0, 1, 0, 1_000_000), None),
+            (4, line(0, 1, 0, 1_000_001), Some(Decline::LineLimits)),
+            (4, line(1, 0, 1, 0), Some(Decline::LineDirection)),
         ];
-        for edge in &edges {
-            let mut file = Vec::new(rt.alloc());
-            push_all(&mut file, &[b'N', edge.n])?;
-            push_line(&mut file, &edge.line)?;
+        for &(n, line, by) in &edges {
+            let mut file = open_file(rt.alloc(), n, &[line], &[])?;
             file.push(b'G')?;
-            assert_eq!(rt; number_of(file.as_slice()), edge.number);
+            assert_eq!(rt; refusal(&file), by);
         }
         Ok(())
     }
 
-    // A file and its number.
-    #[derive(Clone, Copy, Drop)]
-    struct Broken<'a> {
-        file: &'a [u8],
-        number: u8,
-    }
-
     #[test]
     fn edges_of_a_file(rt: HostRuntime) {
-        let files = [
-            Broken {
-                file: b"",
-                number: 12,
-            },
-            Broken {
-                file: b"N",
-                number: 12,
-            },
-            Broken {
-                file: b"N\x02",
-                number: 12,
-            },
-            Broken {
-                file: b"N\x02G",
-                number: 0,
-            },
-            Broken {
-                file: b"N\x02M",
-                number: 0,
-            },
-            Broken {
-                file: b"N\x02GG",
-                number: 13,
-            },
-            Broken {
-                file: b"G",
-                number: 11,
-            },
-            Broken {
-                file: b"n\x02G",
-                number: 11,
-            },
-            Broken {
-                file: b"N\x02N\x02G",
-                number: 11,
-            },
-            Broken {
-                file: b"N\x02X",
-                number: 11,
-            },
-            Broken {
-                file: b"N\x02L\x00\x01\x00\x00\x00\x00\x00\x00\x00",
-                number: 12,
-            },
-            Broken {
-                file: b"N\x02L\x00\x01\x00\x00\x00\x00\x00\x00\x00\x01",
-                number: 12,
-            },
-            Broken {
-                file: b"N\x02L\x00\x01\x00\x00\x00\x00\x00\x00\x00\x01G",
-                number: 0,
-            },
-            Broken {
-                file: b"N\x02T\x00\x00\x00\x00\x00\x00\x00\x00\x00\x01G",
-                number: 8,
-            },
-            Broken {
-                file: b"N\x00GX",
-                number: 13,
-            },
-            Broken {
-                file: b"N\x00X",
-                number: 11,
-            },
+        let files: &[(&[u8], Option<Decline>)] = &[
+            (b"", Some(Decline::FileEnds)),
+            (b"N", Some(Decline::FileEnds)),
+            (b"N\x02", Some(Decline::FileEnds)),
+            (b"N\x02G", None),
+            (b"N\x02M", None),
+            (b"N\x02GG", Some(Decline::FileGoesOn)),
+            (b"G", Some(Decline::NoCommand)),
+            (b"n\x02G", Some(Decline::NoCommand)),
+            (b"N\x02N\x02G", Some(Decline::NoCommand)),
+            (b"N\x02X", Some(Decline::NoCommand)),
+            (
+                b"N\x02L\x00\x01\x00\x00\x00\x00\x00\x00\x00",
+                Some(Decline::FileEnds),
+            ),
+            (
+                b"N\x02L\x00\x01\x00\x00\x00\x00\x00\x00\x00\x01",
+                Some(Decline::FileEnds),
+            ),
+            (b"N\x02L\x00\x01\x00\x00\x00\x00\x00\x00\x00\x01G", None),
+            (
+                b"N\x02T\x00\x00\x00\x00\x00\x00\x00\x00\x00\x01G",
+                Some(Decline::LineNumber),
+            ),
+            (b"N\x00GX", Some(Decline::FileGoesOn)),
+            (b"N\x00X", Some(Decline::NoCommand)),
         ];
-        for broken in &files {
-            assert_eq!(rt; number_of(broken.file), broken.number);
+        for &(file, by) in files {
+            assert_eq!(rt; refusal(file), by);
         }
-    }
-
-    // A file with so many lines and trials, and its number.
-    #[derive(Clone, Copy)]
-    struct Crowd {
-        n: u8,
-        lines: u32,
-        trials: u32,
-        number: u8,
     }
 
     #[test]
     fn edges_of_counts(rt: HostRuntime) -> Result<(), Fail> {
+        let heap = rt.alloc();
+        // Junctions, lines and trials, and why the file is declined, if it is.
         let crowds = [
-            Crowd {
-                n: 2,
-                lines: 1000,
-                trials: 0,
-                number: 0,
-            },
-            Crowd {
-                n: 2,
-                lines: 1001,
-                trials: 0,
-                number: 3,
-            },
-            Crowd {
-                n: 1,
-                lines: 1001,
-                trials: 0,
-                number: 2,
-            },
-            Crowd {
-                n: 2,
-                lines: 1,
-                trials: 64,
-                number: 0,
-            },
-            Crowd {
-                n: 2,
-                lines: 1,
-                trials: 65,
-                number: 10,
-            },
-            Crowd {
-                n: 2,
-                lines: 1001,
-                trials: 65,
-                number: 10,
-            },
+            (2, 1000, 0, None),
+            (2, 1001, 0, Some(Decline::LineCount)),
+            (1, 1001, 0, Some(Decline::JunctionCount)),
+            (2, 1, 64, None),
+            (2, 1, 65, Some(Decline::TrialCount)),
+            (2, 1001, 65, Some(Decline::TrialCount)),
         ];
-        for crowd in &crowds {
-            let mut file = Vec::new(rt.alloc());
-            push_all(&mut file, &[b'N', crowd.n])?;
-            for _ in 0..crowd.lines {
-                push_line(&mut file, &line(0, 1, 0, 1))?;
-            }
-            for _ in 0..crowd.trials {
-                push_trial(&mut file, &trial(0, 0, 2))?;
-            }
+        for &(n, lines, trials, by) in &crowds {
+            let lines = vec![in heap; line(0, 1, 0, 1); lines]?;
+            let trials = vec![in heap; trial(0, 0, 2); trials]?;
+            let mut file = open_file(heap, n, &lines, &trials)?;
             file.push(b'G')?;
-            assert_eq!(rt; number_of(file.as_slice()), crowd.number);
+            assert_eq!(rt; refusal(&file), by);
         }
         Ok(())
     }
@@ -555,13 +244,10 @@ mod tests {
     // The 65th trial is declined at its first byte, before its operands are missed.
     #[test]
     fn cut_at_the_last_trial(rt: HostRuntime) -> Result<(), Fail> {
-        let mut file = Vec::new(rt.alloc());
-        push_all(&mut file, &[b'N', 2])?;
-        for _ in 0..64 {
-            push_trial(&mut file, &trial(0, 0, 2))?;
-        }
+        let trials = [trial(0, 0, 2); 64];
+        let mut file = open_file(rt.alloc(), 2, &[], &trials)?;
         file.push(b'T')?;
-        assert_eq!(rt; number_of(file.as_slice()), 10);
+        assert_eq!(rt; refusal(&file), Some(Decline::TrialCount));
         Ok(())
     }
 
@@ -575,36 +261,52 @@ mod tests {
         assert_eq!(rt; widgulp_listing(file, &mut short), -9);
         assert_eq!(rt; widgulp_listing(b"N\x02", &mut short), -12);
         assert!(rt; write_text(b"N\x02", &mut short).is_err());
-        for b in &short {
-            assert_eq!(rt; *b, 7);
-        }
+        assert!(rt; short == [7u8; SHORT_LEN]);
         let mut out = [7u8; SHEET_LEN];
         assert_eq!(rt; widgulp_listing(file, &mut out), 24);
         assert!(rt; out[23] == 10 && out[24] == 7);
     }
 
-    // The number of a decline; 0 where the call was accepted.
-    fn declined<T: Drop>(answer: Result<T, Decline>) -> u8 {
-        match answer {
-            Ok(_) => 0,
-            Err(decline) => decline.number(),
-        }
-    }
-
     #[test]
     fn aims_and_works(rt: HostRuntime) {
         let mut planner = Planner::new(Fifo::new());
-        assert_eq!(rt; declined(planner.start(2, &[], 0)), 1);
-        assert_eq!(rt; declined(planner.start(0, &[], 3)), 1);
-        assert_eq!(rt; declined(planner.work(0)), 21);
-        assert_eq!(rt; declined(planner.start(2, &[], 2)), 0);
-        assert_eq!(rt; declined(planner.work(0)), 7);
-        assert_eq!(rt; declined(planner.work(60_001)), 7);
-        assert_eq!(rt; declined(planner.total()), 22);
-        assert_eq!(rt; declined(planner.work(60_000)), 0);
-        assert_eq!(rt; declined(planner.work(60_000)), 21);
-        assert_eq!(rt; declined(planner.total()), 0);
-        assert_eq!(rt; declined(planner.flow(0)), 8);
-        assert_eq!(rt; declined(planner.hurdle(&mut [])), 24);
+        assert_eq!(rt; planner.start(2, &[], 0).err(), Some(Decline::AimNumber));
+        assert_eq!(rt; planner.start(0, &[], 3).err(), Some(Decline::AimNumber));
+        assert_eq!(rt; planner.work(0).err(), Some(Decline::NothingInWork));
+        assert_eq!(rt; planner.start(2, &[], 2).err(), None);
+        assert_eq!(rt; planner.work(0).err(), Some(Decline::WorkNumber));
+        assert_eq!(rt; planner.work(60_001).err(), Some(Decline::WorkNumber));
+        assert_eq!(rt; planner.total().err(), Some(Decline::NothingSettled));
+        assert_eq!(rt; planner.work(60_000).err(), None);
+        assert_eq!(rt; planner.work(60_000).err(), Some(Decline::NothingInWork));
+        assert_eq!(rt; planner.total().err(), None);
+        assert_eq!(rt; planner.flow(0).err(), Some(Decline::LineNumber));
+        assert_eq!(rt; planner.hurdle(&mut []).err(), Some(Decline::NoHurdle));
+    }
+
+    #[test]
+    fn numbers_of_declines(rt: HostRuntime) {
+        let numbers = [
+            (Decline::AimNumber, 1),
+            (Decline::JunctionCount, 2),
+            (Decline::LineCount, 3),
+            (Decline::LineEnds, 4),
+            (Decline::LineDirection, 5),
+            (Decline::LineLimits, 6),
+            (Decline::WorkNumber, 7),
+            (Decline::LineNumber, 8),
+            (Decline::BufferLength, 9),
+            (Decline::TrialCount, 10),
+            (Decline::NoCommand, 11),
+            (Decline::FileEnds, 12),
+            (Decline::FileGoesOn, 13),
+            (Decline::NothingInWork, 21),
+            (Decline::NothingSettled, 22),
+            (Decline::NoFlow, 23),
+            (Decline::NoHurdle, 24),
+        ];
+        for &(decline, number) in &numbers {
+            assert_eq!(rt; decline.number(), number);
+        }
     }
 }

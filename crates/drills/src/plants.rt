@@ -1,171 +1,76 @@
 //! The plants of the tests.
-use plant::{BLANK_LINE, Line};
+use plant::Line;
+use std::array;
 
-/// A list with its number of junctions.
-#[derive(Clone, Copy, Drop)]
-pub struct Plan {
+// A line with its limits; a constant may name a macro, and no function.
+macro_rules! a_line {
+    ($from:expr, $to:expr, $low:expr, $high:expr) => {
+        Line {
+            from: $from,
+            to: $to,
+            low: $low,
+            high: $high,
+        }
+    };
+}
+
+pub(crate) use a_line;
+
+/// What a planner is asked.
+#[derive(Clone, Copy)]
+pub struct Question<'a> {
     pub n: u8,
-    pub lines: &'static [Line],
+    pub lines: &'a [Line],
+    pub aim: u8,
 }
 
 /// Has a flow under both aims, and works in both stages.
-pub const FOUR: &'static [Line] = &[
-    Line {
-        from: 0,
-        to: 2,
-        low: 2,
-        high: 6,
-    },
-    Line {
-        from: 2,
-        to: 3,
-        low: 0,
-        high: 4,
-    },
-    Line {
-        from: 3,
-        to: 1,
-        low: 1,
-        high: 5,
-    },
-    Line {
-        from: 2,
-        to: 1,
-        low: 0,
-        high: 1,
-    },
+pub const FOUR: &[Line] = &[
+    a_line!(0, 2, 2, 6),
+    a_line!(2, 3, 0, 4),
+    a_line!(3, 1, 1, 5),
+    a_line!(2, 1, 0, 1),
 ];
 
 /// The same with no low, so that stage one has nothing to do.
-pub const FREE: &'static [Line] = &[
-    Line {
-        from: 0,
-        to: 2,
-        low: 0,
-        high: 6,
-    },
-    Line {
-        from: 2,
-        to: 3,
-        low: 0,
-        high: 4,
-    },
-    Line {
-        from: 3,
-        to: 1,
-        low: 0,
-        high: 5,
-    },
-    Line {
-        from: 2,
-        to: 1,
-        low: 0,
-        high: 1,
-    },
+pub const FREE: &[Line] = &[
+    a_line!(0, 2, 0, 6),
+    a_line!(2, 3, 0, 4),
+    a_line!(3, 1, 0, 5),
+    a_line!(2, 1, 0, 1),
 ];
 
 /// Asks for more at its second line than its first can bring.
-pub const SHORT: &'static [Line] = &[
-    Line {
-        from: 0,
-        to: 2,
-        low: 0,
-        high: 2,
-    },
-    Line {
-        from: 2,
-        to: 1,
-        low: 3,
-        high: 5,
-    },
-];
+pub const SHORT: &[Line] = &[a_line!(0, 2, 0, 2), a_line!(2, 1, 3, 5)];
 
 /// A loop between two junctions, a dead end, and a line that must carry much.
-pub const LOOP: &'static [Line] = &[
-    Line {
-        from: 0,
-        to: 2,
-        low: 0,
-        high: 9,
-    },
-    Line {
-        from: 2,
-        to: 3,
-        low: 4,
-        high: 9,
-    },
-    Line {
-        from: 3,
-        to: 2,
-        low: 0,
-        high: 5,
-    },
-    Line {
-        from: 3,
-        to: 4,
-        low: 0,
-        high: 7,
-    },
-    Line {
-        from: 3,
-        to: 1,
-        low: 1,
-        high: 2,
-    },
-    Line {
-        from: 0,
-        to: 1,
-        low: 3,
-        high: 3,
-    },
+pub const LOOP: &[Line] = &[
+    a_line!(0, 2, 0, 9),
+    a_line!(2, 3, 4, 9),
+    a_line!(3, 2, 0, 5),
+    a_line!(3, 4, 0, 7),
+    a_line!(3, 1, 1, 2),
+    a_line!(0, 1, 3, 3),
 ];
 
 /// A loop that no flow enters, and two hurdles of different shortfalls.
-pub const APART: &'static [Line] = &[
-    Line {
-        from: 0,
-        to: 2,
-        low: 0,
-        high: 1,
-    },
-    Line {
-        from: 2,
-        to: 1,
-        low: 4,
-        high: 8,
-    },
-    Line {
-        from: 3,
-        to: 4,
-        low: 2,
-        high: 2,
-    },
-    Line {
-        from: 4,
-        to: 3,
-        low: 0,
-        high: 1,
-    },
-    Line {
-        from: 0,
-        to: 1,
-        low: 0,
-        high: 1_000_000,
-    },
+pub const APART: &[Line] = &[
+    a_line!(0, 2, 0, 1),
+    a_line!(2, 1, 4, 8),
+    a_line!(3, 4, 2, 2),
+    a_line!(4, 3, 0, 1),
+    a_line!(0, 1, 0, 1_000_000),
 ];
 
-/// The plants by table.
-pub const PLANS: &'static [Plan] = &[
-    Plan { n: 2, lines: &[] },
-    Plan {
-        n: 250,
-        lines: FOUR,
-    },
-    Plan { n: 4, lines: FOUR },
-    Plan { n: 4, lines: FREE },
-    Plan { n: 3, lines: SHORT },
-    Plan { n: 5, lines: LOOP },
-    Plan { n: 5, lines: APART },
+/// The plants by table, with their numbers of junctions.
+pub const PLANS: &[(u8, &[Line])] = &[
+    (2, &[]),
+    (250, FOUR),
+    (4, FOUR),
+    (4, FREE),
+    (3, SHORT),
+    (5, LOOP),
+    (5, APART),
 ];
 
 /// As many lines as a drawn plant has.
@@ -196,11 +101,9 @@ fn drawn_line(seed: u32) -> Line {
 
 /// A plant drawn by a seed.
 pub fn drawn(seed: u32) -> [Line; DRAWN] {
-    let mut lines = [BLANK_LINE; DRAWN];
     let mut seed = seed;
-    for k in 0..DRAWN {
+    array::from_fn(|_| {
         seed = next(seed);
-        lines[k] = drawn_line(seed);
-    }
-    lines
+        drawn_line(seed)
+    })
 }

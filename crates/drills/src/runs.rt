@@ -1,48 +1,46 @@
 //! Work in portions, both choosers, and trials.
 ghost use Rattle.planner.specs.Standing.{Sound};
 
-use super::plants::{DRAWN_JUNCTIONS, PLANS, drawn};
-use super::seen::{Seen, declined, discharges, see};
+use super::plants::{DRAWN_JUNCTIONS, PLANS, Question, drawn};
+use super::seen::{Answers, Seen};
 use chooser::{Chooser, Fifo, HighestLabel};
 use planner::{Outcome, Planner};
-use plant::Line;
 use std::process::Abort;
 
 // The most works that a test waits for.
 const WORKS: u32 = 100_000;
 
-/// Works in portions until the question is settled; answers the discharges told, or the most where a work is declined.
-pub fn settle<C: Chooser>(planner: &mut Planner<C>, portion: u32) -> u64
+/// Works in portions until the question is settled, and tells the discharges; none where a work is declined, or where
+/// the most works settle nothing.
+pub fn settle<C: Chooser>(planner: &mut Planner<C>, portion: u32) -> Option<u64>
     requires { Sound C.Chooser.has planner.old }
     ensures { Sound C.Chooser.has planner.new }
 {
     let mut told: u64 = 0;
     for _ in 0..WORKS {
-        match planner.work(portion) {
-            Ok((Outcome::InWork, made)) => told = told.wrapping_add(made as u64),
-            Ok((_, made)) => return told.wrapping_add(made as u64),
-            Err(_) => return u64::MAX,
+        let (outcome, made) = planner.work(portion).ok()?;
+        told = told.wrapping_add(u64::from(made));
+        if outcome != Outcome::InWork {
+            return Some(told);
         }
     }
-    u64::MAX
+    None
 }
 
 // Asks a question and works in portions; answers what is seen, if the tallies are what was told.
 fn ask<C: Chooser>(
     rt: &impl Abort,
     planner: &mut Planner<C>,
-    n: u8,
-    lines: &[Line],
-    aim: u8,
+    asked: Question<'_>,
     portion: u32,
 ) -> Seen
     requires { Sound C.Chooser.has planner.old }
     ensures { Sound C.Chooser.has planner.new }
 {
-    let _ = planner.start(n, lines, aim);
+    let _ = planner.start(asked.n, asked.lines, asked.aim);
     let told = settle(planner, portion);
-    let seen = see(planner);
-    assert!(rt; told == discharges(&seen));
+    let seen = Seen::of(planner);
+    assert!(rt; told == Some(seen.discharges()));
     seen
 }
 
@@ -50,33 +48,32 @@ fn ask<C: Chooser>(
 fn ask_in_portions<C: Chooser>(
     rt: &impl Abort,
     planner: &mut Planner<C>,
-    n: u8,
-    lines: &[Line],
-    aim: u8,
+    asked: Question<'_>,
 ) -> Seen
     requires { Sound C.Chooser.has planner.old }
 {
-    let by_one = ask(rt, planner, n, lines, aim, 1);
-    let by_seven = ask(rt, planner, n, lines, aim, 7);
-    let by_most = ask(rt, planner, n, lines, aim, 60_000);
+    let by_one = ask(rt, planner, asked, 1);
+    let by_seven = ask(rt, planner, asked, 7);
+    let by_most = ask(rt, planner, asked, 60_000);
     assert!(rt; by_one == by_most && by_seven == by_most);
     by_most
 }
 
 // Both choosers give the same answers to a question, in any portions.
-fn compare(rt: &impl Abort, n: u8, lines: &[Line], aim: u8) {
+fn compare(rt: &impl Abort, asked: Question<'_>) {
     let mut first = Planner::new(Fifo::new());
     let mut second = Planner::new(HighestLabel::new());
-    let one = ask_in_portions(rt, &mut first, n, lines, aim);
-    let two = ask_in_portions(rt, &mut second, n, lines, aim);
+    let one = ask_in_portions(rt, &mut first, asked);
+    let two = ask_in_portions(rt, &mut second, asked);
     assert!(rt; one.answers == two.answers);
 }
 
 #[test]
 fn plants_by_table(rt: HostRuntime) {
-    for plan in PLANS {
-        compare(&rt, plan.n, plan.lines, 1);
-        compare(&rt, plan.n, plan.lines, 2);
+    for &(n, lines) in PLANS {
+        for aim in [1, 2] {
+            compare(&rt, Question { n, lines, aim });
+        }
     }
 }
 
@@ -84,8 +81,16 @@ fn plants_by_table(rt: HostRuntime) {
 fn drawn_plants(rt: HostRuntime) {
     for seed in 0..200 {
         let lines = drawn(seed);
-        compare(&rt, DRAWN_JUNCTIONS, &lines, 1);
-        compare(&rt, DRAWN_JUNCTIONS, &lines, 2);
+        for aim in [1, 2] {
+            compare(
+                &rt,
+                Question {
+                    n: DRAWN_JUNCTIONS,
+                    lines: &lines,
+                    aim,
+                },
+            );
+        }
     }
 }
 
@@ -97,8 +102,8 @@ fn compare_trial(rt: &impl Abort, seed: u32, aim: u8, low: u32, high: u32) {
     let line = (seed % 24) as u16;
     let one = first.trial(DRAWN_JUNCTIONS, &mut list, aim, line, low, high);
     let two = second.trial(DRAWN_JUNCTIONS, &mut list, aim, line, low, high);
-    assert!(rt; declined(one) == 0 && declined(two) == 0);
-    assert!(rt; see(&first).answers == see(&second).answers && list == drawn(seed));
+    assert!(rt; one.is_ok() && two.is_ok());
+    assert!(rt; Answers::of(&first) == Answers::of(&second) && list == drawn(seed));
 }
 
 #[test]

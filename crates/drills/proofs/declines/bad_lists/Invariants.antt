@@ -1,5 +1,5 @@
 use Rattle.planner.specs.Standing.{Sound}
 use Rattle.drills.proofs.declines.bad_lists.Given as goal
 
-abbrev pub invariant-loop-bad : goal.invariant-loop-bad
-invariant-loop-bad g l = Sound g.C.Chooser.has l.planner
+abbrev pub invariant-loop-n : goal.invariant-loop-n
+invariant-loop-n g l = Sound g.C.Chooser.has l.planner
