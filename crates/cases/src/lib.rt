@@ -5,8 +5,7 @@
 mod tests {
     use chooser::Fifo;
     use planner::Planner;
-    use plant::{Decline, Line};
-    use plantfile::Trial;
+    use plant::{Decline, Line, Trial};
     use sheet_text::{SHEET_LEN, widgulp_listing, write_listing, write_text};
     use std::alloc::{AllocError, Global};
     use std::process::Abort;
@@ -306,7 +305,7 @@ mod tests {
             (Decline::NoHurdle, 24),
         ];
         for &(decline, number) in &numbers {
-            assert_eq!(rt; decline.number(), number);
+            assert_eq!(rt; u8::from(decline), number);
         }
     }
 }

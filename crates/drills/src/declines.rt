@@ -6,7 +6,7 @@ use super::runs::settle;
 use super::seen::Seen;
 use chooser::{Chooser, Fifo, HighestLabel};
 use planner::{Planner, Side, State};
-use plant::{Decline, Line};
+use plant::{Decline, Line, Trial};
 use std::process::Abort;
 
 // One line too many.
@@ -35,14 +35,6 @@ const BADS: &[(u8, &[Line], u8, Decline)] = &[
     (4, &[a_line!(0, 1, 0, 1_000_001)], 1, Decline::LineLimits),
 ];
 
-// A line's number and limits, for a trial.
-#[derive(Clone, Copy)]
-struct Limits {
-    line: u16,
-    low: u32,
-    high: u32,
-}
-
 // Those that a trial declines, and why.
 const LIMITS: &[(u16, u32, u32, Decline)] = &[
     (4, 0, 1, Decline::LineNumber),
@@ -52,7 +44,7 @@ const LIMITS: &[(u16, u32, u32, Decline)] = &[
 ];
 
 // Limits of no line, and wrong ones.
-const WRONG: Limits = Limits {
+const WRONG: Trial = Trial {
     line: 65_535,
     low: 1,
     high: 0,
@@ -82,7 +74,7 @@ fn bad_trial<C: Chooser>(
     planner: &mut Planner<C>,
     seen: &Seen,
     asked: Question<'_>,
-    limits: Limits,
+    limits: Trial,
     by: Decline,
 ) -> bool
     requires { Sound C.Chooser.has planner.old }
@@ -93,14 +85,7 @@ fn bad_trial<C: Chooser>(
     let lines = &asked.lines[..count];
     let list = &mut places[..count];
     list.copy_from_slice(lines);
-    let answer = planner.trial(
-        asked.n,
-        list,
-        asked.aim,
-        limits.line,
-        limits.low,
-        limits.high,
-    );
+    let answer = planner.trial(asked.n, list, asked.aim, limits);
     answer == Err(by) && &*list == lines && Seen::of(planner) == *seen
 }
 
@@ -123,7 +108,7 @@ fn bad_trials<C: Chooser>(planner: &mut Planner<C>, seen: &Seen) -> bool
     ensures { Sound C.Chooser.has planner.new }
 {
     for &(line, low, high, by) in LIMITS {
-        if !bad_trial(planner, seen, GOOD, Limits { line, low, high }, by) {
+        if !bad_trial(planner, seen, GOOD, Trial { line, low, high }, by) {
             return false;
         }
     }

@@ -5,6 +5,7 @@ use super::plants::{DRAWN_JUNCTIONS, PLANS, Question, drawn};
 use super::seen::{Answers, Seen};
 use chooser::{Chooser, Fifo, HighestLabel};
 use planner::{Outcome, Planner};
+use plant::Trial;
 use std::process::Abort;
 
 // The most works that a test waits for.
@@ -100,8 +101,9 @@ fn compare_trial(rt: &impl Abort, seed: u32, aim: u8, low: u32, high: u32) {
     let mut second = Planner::new(HighestLabel::new());
     let mut list = drawn(seed);
     let line = (seed % 24) as u16;
-    let one = first.trial(DRAWN_JUNCTIONS, &mut list, aim, line, low, high);
-    let two = second.trial(DRAWN_JUNCTIONS, &mut list, aim, line, low, high);
+    let trial = Trial { line, low, high };
+    let one = first.trial(DRAWN_JUNCTIONS, &mut list, aim, trial);
+    let two = second.trial(DRAWN_JUNCTIONS, &mut list, aim, trial);
     assert!(rt; one.is_ok() && two.is_ok());
     assert!(rt; Answers::of(&first) == Answers::of(&second) && list == drawn(seed));
 }

@@ -11,7 +11,7 @@ use Rattle.plant.specs.declared.decline.Decline.TheVariants.{FileEnds, NoCommand
 use Rattle.plant.specs.declared.line.Line.{Line}
 use Rattle.plantfile.specs.declared.reader.Command.{Command}
 use Rattle.plantfile.specs.declared.reader.Command.TheVariants.{End}
-use Rattle.plantfile.specs.declared.reader.Trial.{Trial}
+use Rattle.plant.specs.declared.line.Trial.{Trial}
 use Rattle.plantfile.specs.Format.{Content, after, first, parse, word16, word32}
 use Rattle.plantfile.specs.Round.{Byte, FitsLine, FitsTrial, Ten, WritesAgain, WritesInOrder, lettered}
 use Rattle.plantfile.specs.Writing.{aim_byte, encoded, four, line_bytes, trial_bytes, two}

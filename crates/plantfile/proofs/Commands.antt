@@ -5,7 +5,7 @@ use Rattle.plant.specs.declared.aim.Aim.{Aim}
 use Rattle.plant.specs.declared.line.Line.{Line}
 use Rattle.plantfile.specs.declared.reader.Command.{Command}
 use Rattle.plantfile.specs.declared.reader.Command.TheVariants.{Draw, Try, End}
-use Rattle.plantfile.specs.declared.reader.Trial.{Trial}
+use Rattle.plant.specs.declared.line.Trial.{Trial}
 use Rattle.plantfile.specs.Writing.{command_bytes, encoded, line_bytes, trial_bytes}
 
 -- pieces of eleven bytes

@@ -7,7 +7,7 @@ use Rattle.plant.specs.declared.aim.Aim.{Aim}
 use Rattle.plant.specs.declared.decline.Decline.{Decline}
 use Rattle.plant.specs.declared.decline.Decline.TheVariants.{BufferLength, TrialCount}
 use Rattle.plant.specs.declared.line.Line.{Line}
-use Rattle.plantfile.specs.declared.reader.Trial.{Trial}
+use Rattle.plant.specs.declared.line.Trial.{Trial}
 use Rattle.plantfile.specs.Writing.{Laid, aim_byte, encoded, line_bytes, test_each, test_trials, then_test, trial_bytes, written}
 use Rattle.plantfile.proofs.Commands.{length_pieces}
 use Rattle.text.specs.Pieces.{Puts}

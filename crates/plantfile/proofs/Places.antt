@@ -8,7 +8,7 @@ use Rattle.plant.specs.declared.line.Line.{Line}
 use Rattle.plantfile.specs.declared.reader.Command.{Command}
 use Rattle.plantfile.specs.declared.reader.Command.TheVariants.{Draw, Try, End}
 use Rattle.plantfile.specs.declared.reader.Heading.{Heading}
-use Rattle.plantfile.specs.declared.reader.Trial.{Trial}
+use Rattle.plant.specs.declared.line.Trial.{Trial}
 use Rattle.plantfile.specs.Format.{Content, Kept, Told, after, filled, first, queued}
 use Rattle.plantfile.proofs.Steps.{Gives, err_given, end_given, draw_given, try_given, few_try, long_draw, long_try}
 

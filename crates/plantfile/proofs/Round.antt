@@ -8,7 +8,7 @@ use Rattle.plant.specs.declared.decline.Decline.{Decline}
 use Rattle.plant.specs.declared.decline.Decline.TheVariants.{TrialCount}
 use Rattle.plant.specs.declared.line.Line.{Line}
 use Rattle.plantfile.specs.declared.reader.Command.TheVariants.{Draw, Try, End}
-use Rattle.plantfile.specs.declared.reader.Trial.{Trial}
+use Rattle.plant.specs.declared.line.Trial.{Trial}
 use Rattle.plantfile.specs.Format.{Content, after, first, line_of, trial_of}
 use Rattle.plantfile.specs.Round.{FitsLine, FitsTrial, ReadsBack}
 use Rattle.plantfile.specs.Writing.{aim_byte, encoded, line_bytes, trial_bytes}

@@ -6,7 +6,7 @@ use Rattle.plantfile.specs.declared.reader.Command.TheVariants.{Draw, Try, End}
 use Rattle.plant.specs.declared.aim.Aim.{Aim}
 use Rattle.plant.specs.declared.decline.Decline.{Decline}
 use Rattle.plant.specs.declared.line.Line.{Line}
-use Rattle.plantfile.specs.declared.reader.Trial.{Trial}
+use Rattle.plant.specs.declared.line.Trial.{Trial}
 use Rattle.plantfile.specs.Format.{Content, after, first, parse}
 
 -- `&bs[a..]`

@@ -10,7 +10,7 @@ use Rattle.plant.specs.declared.aim.Aim.{Aim}
 use Rattle.plant.specs.declared.decline.Decline.{Decline}
 use Rattle.plant.specs.declared.decline.Decline.TheVariants.{AimNumber, LineLimits, LineNumber}
 use Rattle.plant.specs.declared.line.Line.{Line}
-use Rattle.plantfile.specs.declared.reader.Trial.{Trial}
+use Rattle.plant.specs.declared.line.Trial.{Trial}
 use Rattle.plantfile.specs.Format.{parse}
 use Rattle.plantfile.specs.Round.{FitsLine, FitsTrial, WrittenReadsBack}
 use Rattle.plantfile.specs.Writing.{test_each, test_trials, then_test}

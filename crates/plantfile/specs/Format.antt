@@ -8,7 +8,7 @@ use Rattle.plant.specs.declared.decline.Decline.{Decline}
 use Rattle.plant.specs.declared.decline.Decline.TheVariants.{TrialCount, NoCommand, FileEnds, FileGoesOn}
 use Rattle.plant.specs.declared.line.Line.{Line}
 use Rattle.plantfile.specs.declared.reader.Heading.{Heading}
-use Rattle.plantfile.specs.declared.reader.Trial.{Trial}
+use Rattle.plant.specs.declared.line.Trial.{Trial}
 
 -- what a plant file holds: the lines and the trials in the order of the file
 pub record Content : Type 0 where

@@ -9,7 +9,7 @@ use Rattle.plant.specs.declared.decline.Decline.TheVariants.{BufferLength, Trial
 use Rattle.plant.specs.declared.line.Line.{Line}
 use Rattle.plantfile.specs.declared.reader.Command.{Command}
 use Rattle.plantfile.specs.declared.reader.Command.TheVariants.{Draw, Try, End}
-use Rattle.plantfile.specs.declared.reader.Trial.{Trial}
+use Rattle.plant.specs.declared.line.Trial.{Trial}
 use Rattle.plantfile.specs.Format.{Content}
 
 -- highest byte first

@@ -6,13 +6,13 @@ mod reader;
 mod writer;
 
 pub use laws::{reads_back, writes_again, writes_in_order, written_reads_back};
-pub use reader::{BLANK_TRIAL, Heading, MAX_TRIALS, Trial, read_file};
+pub use reader::{Heading, MAX_TRIALS, read_file};
 pub use writer::{test_each, write_file};
 
 #[cfg(test)]
 mod tests {
     use super::*;
-    use plant::{Aim, BLANK_LINE, Decline, Line};
+    use plant::{Aim, Decline, Line, Trial};
     use ring::Queue;
 
     const LINES: [Line; 4] = [
@@ -65,8 +65,8 @@ mod tests {
 
     #[test]
     fn reads_the_example(rt: HostRuntime) {
-        let mut lines = [BLANK_LINE; 4];
-        let mut places = [BLANK_TRIAL; 64];
+        let mut lines = [Line::default(); 4];
+        let mut places = [Trial::default(); 64];
         let mut waiting = Queue::new(&mut places);
         let heading = Heading {
             n: 4,

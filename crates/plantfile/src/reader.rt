@@ -3,7 +3,7 @@ ghost use Rattle.std.specs.Prelude.{◌≡◌, ◌+◌, ◌-◌, [], ◌∷◌, 
 ghost use Rattle.plantfile.specs.Format.{after, first, line_of, operands_of, parse, Told, trial_of};
 ghost use Rattle.ring.specs.Held.{items, room};
 
-use plant::{Aim, Decline, Line};
+use plant::{Aim, Decline, Line, Trial};
 use ring::Queue;
 
 /// The most trials of a file.
@@ -11,21 +11,6 @@ pub const MAX_TRIALS: usize = 64;
 
 // A command L or T with its operands.
 pub const COMMAND_LEN: usize = 11;
-
-/// Other limits for one line.
-#[derive(Clone, Copy, PartialEq, Eq, Debug)]
-pub struct Trial {
-    pub line: u16,
-    pub low: u32,
-    pub high: u32,
-}
-
-/// Fills a place that holds no trial yet.
-pub const BLANK_TRIAL: Trial = Trial {
-    line: 0,
-    low: 0,
-    high: 0,
-};
 
 /// What a file says beside its lines and trials, and how many lines it has.
 #[derive(Clone, Copy, PartialEq, Eq, Debug)]

@@ -2,12 +2,12 @@
 ghost use Rattle.std.specs.Prelude.{◌≡◌, ◌≤◌, List, length};
 ghost use Rattle.plant.specs.Tests.{pass};
 ghost use Rattle.plantfile.specs.Writing.{command_bytes, encoded, Laid, test_each, test_trials, written};
-ghost use Rattle.plantfile.specs.declared.reader.Trial.{Trial};
+ghost use Rattle.plant.specs.declared.line.Trial.{Trial};
 ghost use Rattle.std.specs.Iterator.{AlwaysYields, IsFinite};
 ghost use Rattle.text.specs.Pieces.{Adds, room};
 
-use super::reader::{COMMAND_LEN, Command, MAX_TRIALS, Trial};
-use plant::{Aim, Decline, Line, test_plant, test_trial};
+use super::reader::{COMMAND_LEN, Command, MAX_TRIALS};
+use plant::{Aim, Decline, Line, Trial, test_plant, test_trial};
 use text::Page;
 
 // One command.
@@ -53,7 +53,7 @@ pub fn test_each<I: Iterator<Item = Trial> + Drop>(count: usize, trials: I) -> R
     ensures { (all : List Trial) → AlwaysYields I.next_gives (λ t. t) trials all → result ≡ pass (test_each count all) }
 {
     for trial in trials {
-        test_trial(count, trial.line, trial.low, trial.high)?;
+        test_trial(count, &trial)?;
     }
     Ok(())
 }

@@ -26,7 +26,7 @@ use Rattle.planner.specs.Standing.{Sound, arcs_in, plant_in}
 use Rattle.planner.proofs.Laws.{flow_best, stuck_none}
 use Rattle.planner.proofs.Tried.{same_aim}
 use Rattle.plantfile.specs.declared.reader.Heading.{Heading}
-use Rattle.plantfile.specs.declared.reader.Trial.{Trial}
+use Rattle.plant.specs.declared.line.Trial.{Trial}
 use Rattle.plantfile.specs.Format.{Content}
 use Rattle.sheet_text.specs.Sheets.{Front, Listed, Sheet, Shown, Texted, TriedAll, impossible, plant_told, with_flow}
 use Rattle.sheet_text.specs.Steps.{Asks, content}

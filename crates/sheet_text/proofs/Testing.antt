@@ -9,7 +9,7 @@ use Rattle.plant.specs.declared.line.Line.{Line}
 use Rattle.plant.specs.Tests.{aim_numbered, pass, test, test_lines, test_list, test_trial, tested, unless}
 use Rattle.planner.proofs.Tried.{failed_some, passed_none}
 use Rattle.plantfile.specs.declared.reader.Heading.{Heading}
-use Rattle.plantfile.specs.declared.reader.Trial.{Trial}
+use Rattle.plant.specs.declared.line.Trial.{Trial}
 use Rattle.plantfile.specs.Format.{Content, Kept, parse}
 use Rattle.plantfile.specs.Writing.{test_each, then_test}
 use Rattle.plantfile.proofs.Laying.{then_fails, then_passes}

@@ -22,7 +22,7 @@ use Rattle.planner.specs.Limits.{limited}
 use Rattle.planner.specs.Standing.{Sound, arcs_in, plant_in}
 use Rattle.planner.proofs.Laws.{flow_best, stuck_none}
 use Rattle.planner.proofs.Tried.{not_both, same_aim, test_off}
-use Rattle.plantfile.specs.declared.reader.Trial.{Trial}
+use Rattle.plant.specs.declared.line.Trial.{Trial}
 use Rattle.plantfile.specs.Writing.{test_each}
 use Rattle.plantfile.proofs.Written.{both_pass}
 use Rattle.sheet_text.specs.Sheets.{BestTotal, TriedAll, TriedOne, no_trial}

@@ -8,7 +8,7 @@ use Rattle.plant.specs.Numbers.{number_of}
 use Rattle.plant.specs.Plants as plants
 use Rattle.plant.specs.Plants.{Best, FarCut, Feasible, Flow, NearCut, Plant, WorstHurdle, shortfall, with_limits}
 use Rattle.plant.specs.Tests.{test_list, unless}
-use Rattle.plantfile.specs.declared.reader.Trial.{Trial}
+use Rattle.plant.specs.declared.line.Trial.{Trial}
 use Rattle.plantfile.specs.Format.{Content, parse}
 use Rattle.plantfile.specs.Writing.{test_each, then_test}
 use Rattle.text.specs.declared.sheets.Tried.{Tried}

@@ -7,7 +7,7 @@ use Rattle.plant.specs.Tests.{test_list}
 use Rattle.planner.specs.declared.machine.Planner.{Planner}
 use Rattle.planner.specs.Standing.{Sound, plant_in}
 use Rattle.plantfile.specs.declared.reader.Heading.{Heading}
-use Rattle.plantfile.specs.declared.reader.Trial.{Trial}
+use Rattle.plant.specs.declared.line.Trial.{Trial}
 use Rattle.plantfile.specs.Format.{Content}
 use Rattle.plantfile.specs.Writing.{test_each}
 use Rattle.ring.specs.Held.{items}

@@ -4,8 +4,8 @@ ghost use Rattle.ring.specs.Held.{items, room};
 ghost use Rattle.sheet_text.specs.Sheets.{checked};
 ghost use Rattle.sheet_text.specs.Steps.{Ready, content};
 
-use plant::{Decline, Line, MAX_LINES, test_list};
-use plantfile::{Heading, Trial, read_file, test_each};
+use plant::{Decline, Line, MAX_LINES, Trial, test_list};
+use plantfile::{Heading, read_file, test_each};
 use ring::Queue;
 
 // Reads a file, and tests its list and then its trials.

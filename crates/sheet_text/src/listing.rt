@@ -10,8 +10,8 @@ use super::readings::{read_cut, read_flows, read_hurdle, read_total, settle};
 use super::trials::Question;
 use chooser::Fifo;
 use planner::{Outcome, Planner, Side};
-use plant::{BLANK_LINE, Decline, MAX_LINES};
-use plantfile::{BLANK_TRIAL, MAX_TRIALS};
+use plant::{Decline, Line, MAX_LINES, Trial};
+use plantfile::MAX_TRIALS;
 use ring::Queue;
 use text::{FlowSheet, HurdleSheet, put_declined};
 
@@ -81,14 +81,14 @@ pub fn write_listing(file: &[u8], out: &mut [u8]) -> Result<usize, Decline>
     ensures listed { Listed (checked file.now) out.old result out.new }
     ensures short { IfOk result (λ len. (len ≤ 16384) × (16384 ≤ length out.new)) }
 {
-    let mut lines = [BLANK_LINE; MAX_LINES];
-    let mut places = [BLANK_TRIAL; MAX_TRIALS];
+    let mut lines = [Line::default(); MAX_LINES];
+    let mut places = [Trial::default(); MAX_TRIALS];
     let mut waiting = Queue::new(&mut places);
     let heading = read_checked(file, &mut lines, &mut waiting)?;
     expect_room(out)?;
     let lines = &mut lines[..heading.lines];
     let mut planner = Planner::new(Fifo::new());
-    planner.start(heading.n, lines, heading.aim.number())?;
+    planner.start(heading.n, lines, u8::from(heading.aim))?;
     let outcome = settle(&mut planner)?;
     let mut question = Question {
         planner: &mut planner,
@@ -122,6 +122,6 @@ pub fn widgulp_listing(file: &[u8], out: &mut [u8]) -> i64
 {
     match write_listing(file, out) {
         Ok(len) => len as i64,
-        Err(decline) => -(decline.number() as i64),
+        Err(decline) => -i64::from(u8::from(decline)),
     }
 }

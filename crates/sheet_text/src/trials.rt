@@ -12,8 +12,8 @@ use super::readings::read_total;
 use arrayvec::ArrayVec;
 use chooser::Fifo;
 use planner::{Outcome, Planner};
-use plant::{Decline, Line};
-use plantfile::{Heading, MAX_TRIALS, Trial};
+use plant::{Decline, Line, Trial};
+use plantfile::{Heading, MAX_TRIALS};
 use ring::Queue;
 use text::Tried;
 
@@ -39,10 +39,8 @@ impl<'q, 'w> Question<'q, 'w> {
         let total = match self.planner.trial(
             self.heading.n,
             self.lines,
-            self.heading.aim.number(),
-            trial.line,
-            trial.low,
-            trial.high,
+            u8::from(self.heading.aim),
+            trial,
         )? {
             Outcome::Flow => Some(read_total(self.planner)?),
             Outcome::InWork | Outcome::Impossible => None,

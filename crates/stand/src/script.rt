@@ -1,7 +1,7 @@
 //! The script: two plants, one with a flow and one without, and every kind of call on them.
 use law::{Call, Given};
 use planner::Side;
-use plant::Line;
+use plant::{Line, Trial};
 use std::alloc::{AllocError, Global};
 
 // After the first work so many more settle the first plant over either chooser, and leave one with nothing to do.
@@ -88,15 +88,8 @@ fn add_declined(script: &mut Vec<Call>, heap: Global) -> Result<(), AllocError> 
 fn add_trials(script: &mut Vec<Call>, heap: Global) -> Result<(), AllocError> {
     for (line, low, high) in [(1, 0, 5), (0, 2, 7)] {
         let given = four(heap)?;
-        script.extend([
-            Call::Trial {
-                given,
-                line,
-                low,
-                high,
-            },
-            Call::Total,
-        ])?;
+        let trial = Trial { line, low, high };
+        script.extend([Call::Trial { given, trial }, Call::Total])?;
     }
     Ok(())
 }
@@ -110,9 +103,11 @@ fn add_starved(script: &mut Vec<Call>, heap: Global) -> Result<(), AllocError> {
         Call::Hurdle { room: 32 },
         Call::Trial {
             given: starved(heap)?,
-            line: 0,
-            low: 0,
-            high: 3,
+            trial: Trial {
+                line: 0,
+                low: 0,
+                high: 3,
+            },
         },
         Call::Total,
         Call::Tallies,

@@ -1,7 +1,7 @@
 //! Calls and answers in plain words.
 use law::{Answer, Call, Given};
 use planner::{Outcome, Side, Tally};
-use plant::{Decline, Line};
+use plant::{Decline, Line, Trial};
 use reach::JunctionSet;
 use std::fmt;
 
@@ -137,16 +137,14 @@ impl fmt::Display for Words<'_, Call> {
         match self.0 {
             Call::Start(given) => write!(f, "start {}", Words(given)),
             Call::Work(number) => write!(f, "work {number}"),
-            Call::Trial {
-                given,
-                line,
-                low,
-                high,
-            } => write!(
-                f,
-                "trial {}, but line {line} at {low}..{high}",
-                Words(given)
-            ),
+            Call::Trial { given, trial } => {
+                let Trial { line, low, high } = *trial;
+                write!(
+                    f,
+                    "trial {}, but line {line} at {low}..{high}",
+                    Words(given)
+                )
+            }
             Call::Total => f.write_str("total"),
             Call::Flow(line) => write!(f, "flow of line {line}"),
             Call::Cut { side, room } => write!(f, "{} cut, into {room} bytes", Words(side)),
@@ -194,7 +192,7 @@ impl fmt::Display for Words<'_, Answer> {
                 write!(f, "stage one: {}; stage two: {}", Words(one), Words(two))
             }
             Answer::Declined(decline) => {
-                write!(f, "declined {}: {}", decline.number(), Words(decline))
+                write!(f, "declined {}: {}", u8::from(*decline), Words(decline))
             }
         }
     }

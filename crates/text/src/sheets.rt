@@ -173,7 +173,7 @@ pub fn put_declined(decline: Decline, out: &mut [u8]) -> usize
 {
     let mut page = Page::new(out);
     page.put(b"DECLINED ");
-    page.put_number(decline.number() as u64);
+    page.put_number(u8::from(decline) as u64);
     page.put(b"\n");
     page.len()
 }

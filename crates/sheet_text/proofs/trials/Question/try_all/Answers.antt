@@ -3,7 +3,7 @@ use Rattle.std.proofs.lemmas.Iterator.Consumers.{YieldsList-at, YieldsList-from_
 use Rattle.plant.specs.Tests.{test_list, test_trial}
 use Rattle.plantfile.specs.Format.{Content}
 use Rattle.plantfile.specs.Writing.{test_each}
-use Rattle.plantfile.specs.declared.reader.Trial.{Trial}
+use Rattle.plant.specs.declared.line.Trial.{Trial}
 use Rattle.plantfile.proofs.Turns.{at_end, at_turn}
 use Rattle.ring.specs.Held.{items}
 use Rattle.ring.specs.Rest.{rest}
