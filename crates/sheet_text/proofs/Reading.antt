@@ -7,11 +7,9 @@ use Rattle.chooser.specs.declared.fifo.Fifo.{Fifo}
 use Rattle.chooser.specs.FifoCalls.{holds}
 use Rattle.plant.specs.declared.decline.Decline.{Decline}
 use Rattle.plant.specs.declared.decline.Decline.TheVariants.{LineNumber}
-use Rattle.plant.specs.declared.held_plant.HeldPlant.{HeldPlant}
-use Rattle.plant.specs.Held.{flow_of, flows_of, line_of, lines_of, marked, plant_of}
+use Rattle.plant.specs.Held.{flow_of, flows_of, line_of, lines_of, marked}
 use Rattle.plant.specs.Plants.{Junctions, WorstHurdle, bound_over, carried, leaves, list_total, shortfall, shortfall_over, total}
 use Rattle.plant.specs.Tests.{test, unless}
-use Rattle.plant.proofs.Tested.{Front, front_fine}
 use Rattle.planner.specs.declared.answer.Side.{Side}
 use Rattle.planner.specs.declared.answer.Side.TheVariants.{Near, Far}
 use Rattle.planner.specs.declared.machine.Planner.{Planner}
@@ -26,10 +24,6 @@ use Rattle.reach.specs.Drying.{first_of}
 use Rattle.reach.specs.Sets.{member, set_bytes, size}
 use Rattle.reach.proofs.Bytes.{member_below}
 use Rattle.sheet_text.proofs.Amounts.{carried_small, shortfall_small, total_out}
-
--- a plant that is held has at most 1,000 lines of at most 1,000,000
-pub held : (h : HeldPlant) → Front h.n (plant_of h).lines
-held h = front_fine h.n h.count h.lines (take h.count h.lines) refl h.few h.fine
 
 -- two answers that are the same
 pub ok_same : {A : Type 0} (x y : A) → ◌≡◌ {A = Result A Decline} (Ok x) (Ok y) → x ≡ y
@@ -50,13 +44,13 @@ module _ (p : Planner Fifo) (s : Sound holds p) (e : p.state ≡ SettledFlow) wh
   out = carried (leaves 0) (plant_in p).lines (flows_of (arcs_in p))
 
   pub flow_small : (k : ℕ) → k < length (plant_in p).lines → get_or (flows_of (arcs_in p)) k 0 ≤ 1000000
-  flow_small k j = omega (arith, (flow_best holds p s e).feasible.within.below k j, ((held p.plant).fine k j).4)
+  flow_small k j = omega (arith, (flow_best holds p s e).feasible.within.below k j, (p.plant.fine k j).4)
 
   pub total_shown : total (plant_in p) (flows_of (arcs_in p)) ≡ pos out
   total_shown = total_out (plant_in p) (flows_of (arcs_in p)) (outward_plant p.plant)
 
   pub out_small : out ≤ 1000000000
-  out_small = omega (arith, carried_small (leaves 0) (plant_in p).lines (flows_of (arcs_in p)) flow_small, (held p.plant).few)
+  out_small = omega (arith, carried_small (leaves 0) (plant_in p).lines (flows_of (arcs_in p)) flow_small, p.plant.few)
 
   pub total_told : total_answer (view p) ≡ Ok (pos out)
   total_told =
@@ -130,7 +124,7 @@ hurdle_marked p before after a marks l read m =
     let is : a.1 ≡ shortfall (plant_in p) S = ap (snd_ok 0) r.2.0 in (
       subst (WorstHurdle (plant_in p)) q r.1.worst,
       is ∙ ap (shortfall (plant_in p)) q,
-      omega (arith, is, (held p.plant).few, shortfall_small (plant_in p).lines S (λ k j. omega (arith, ((held p.plant).fine k j).3, ((held p.plant).fine k j).4))),
+      omega (arith, is, p.plant.few, shortfall_small (plant_in p).lines S (λ k j. omega (arith, (p.plant.fine k j).3, (p.plant.fine k j).4))),
     )
   where
     snd_ok : ℕ → Result (ℕ × ℕ) Decline → ℕ

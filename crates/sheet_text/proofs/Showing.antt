@@ -30,7 +30,7 @@ use Rattle.plant.specs.declared.line.Trial.{Trial}
 use Rattle.plantfile.specs.Format.{Content}
 use Rattle.sheet_text.specs.Sheets.{Front, Listed, Sheet, Shown, Texted, TriedAll, impossible, plant_told, with_flow}
 use Rattle.sheet_text.specs.Steps.{Asks, content}
-use Rattle.sheet_text.proofs.Reading.{flow_length, flow_small, held}
+use Rattle.sheet_text.proofs.Reading.{flow_length, flow_small}
 use Rattle.sheet_text.proofs.Testing.{list_tested}
 use Rattle.text.specs.declared.sheets.Tried.{Tried}
 use Rattle.text.specs.Pieces.{Puts}
@@ -50,7 +50,7 @@ sheet_put c text before after r s short p = record { text = text; sheet = s; sho
 pub small_flows : (p : Planner Fifo) (f : Flow) → Sound holds p → p.state ≡ SettledFlow → f ≡ flows_of (arcs_in p) → SmallFlows f
 small_flows p f s e is =
     let n = flow_length p s e in
-    subst (λ (g : Flow). SmallFlows g) (sym is) (omega (arith, n, (held p.plant).few), λ i j. flow_small p s e i (omega (arith, n)))
+    subst (λ (g : Flow). SmallFlows g) (sym is) (omega (arith, n, p.plant.few), λ i j. flow_small p s e i (omega (arith, n)))
 
 pub few_marks : (n : ℕ) (marks : List Bool) → n ≤ 250 → length (take n marks) ≤ 250
 few_marks n marks h = omega (arith, length-take n marks)

@@ -1,5 +1,5 @@
 -- A planner that works until it is settled.
-use Rattle.std.proofs.Common.{◌≡◌, ℕ, ◌+◌, ◌<◌, true, false, Option, refl, ap, ◌∙◌, arith, length-take}
+use Rattle.std.proofs.Common.{◌≡◌, ℕ, ◌+◌, ◌<◌, true, false, Option, refl, ap, ◌∙◌, arith}
 use Rattle.chooser.specs.declared.fifo.Fifo.{Fifo}
 use Rattle.chooser.specs.FifoCalls.{holds}
 use Rattle.std.proofs.lemmas.Bool.{both_ways}
@@ -22,7 +22,7 @@ pub made_few : (p : Planner Fifo) → Sound holds p → made p < 800000000
 made_few p s =
     let w = limits holds p s in
     let a = roomy (p.plant.n + 2) _ p.one (omega (arith, p.plant.sized.1)) (omega (arith, one_count p.plant, one_length p.plant)) w.first in
-    let b = roomy p.plant.n _ p.two (omega (arith, p.plant.sized.1)) (omega (arith, p.plant.few, length-take p.plant.count p.plant.lines)) w.second in
+    let b = roomy p.plant.n _ p.two (omega (arith, p.plant.sized.1)) (omega (arith, p.plant.few)) w.second in
     omega (arith, a.0, b.0)
 
 -- something is active only while a stage is open

@@ -22,7 +22,7 @@ returns-in_err-start c =
     let h = c.in_ok-heading.heading in
     let ls = c.read_checked.new.lines in
     let r = c.in_ok-heading.ensures.ready.1 in
-    not_both (tested h.n (take h.lines ls) c.number.result) h.aim _ (list_tested h.n c.number.result (take h.lines ls) h.aim c.number.ensures r.list) c.in_err-start.ensures.starts.0
+    not_both (tested h.n (take h.lines ls) c.from.result) h.aim _ (list_tested h.n c.from.result (take h.lines ls) h.aim c.from.ensures r.list) c.in_err-start.ensures.starts.0
 
 pub list_hurdle-requires : goal.list_hurdle-requires
 list_hurdle-requires c =
@@ -33,7 +33,7 @@ list_hurdle-requires c =
     let s = c.in_ok-outcome.ensures in
     record {
       settled = subst (λ (o : Outcome). Settles o c.settle.new.planner.state) c.in-Impossible.is s.settled;
-      asks = asks_told _ _ _ h (take h.lines ls) ts c.number.result c.new-planner.result c.start.new.self c.settle.new.planner c.in_ok-start.ensures.starts s.sound s.plant c.number.ensures r.list;
+      asks = asks_told _ _ _ h (take h.lines ls) ts c.from.result c.new-planner.result c.start.new.self c.settle.new.planner c.in_ok-start.ensures.starts s.sound s.plant c.from.ensures r.list;
       ready = r;
       room = c.in_ok-expect_room.ensures;
     }
@@ -47,7 +47,7 @@ list_flow-requires c =
     let s = c.in_ok-outcome.ensures in
     record {
       settled = settled_flow c.in_ok-outcome.outcome c.settle.new.planner.state c.in-InWork.is s.settled;
-      asks = asks_told _ _ _ h (take h.lines ls) ts c.number.result c.new-planner.result c.start.new.self c.settle.new.planner c.in_ok-start.ensures.starts s.sound s.plant c.number.ensures r.list;
+      asks = asks_told _ _ _ h (take h.lines ls) ts c.from.result c.new-planner.result c.start.new.self c.settle.new.planner c.in_ok-start.ensures.starts s.sound s.plant c.from.ensures r.list;
       ready = r;
       room = c.in_ok-expect_room.ensures;
     }
