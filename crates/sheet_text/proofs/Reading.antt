@@ -78,14 +78,14 @@ not_in false h = refl
 not_in true h = absurd (h refl)
 
 marks_are : (n : ℕ) (S : Junctions) (bytes : List ℕ) (marks : List Bool) → n ≤ 256 → ((v : ℕ) → S v ≡ true → v < n) → bytes ≡ set_bytes S
-    → ((v : ℕ) → v < 256 → marked marks v ≡ member bytes v) → (v : ℕ) → marked (take n marks) v ≡ S v
+    → ((v : ℕ) → marked marks v ≡ member bytes v) → (v : ℕ) → marked (take n marks) v ≡ S v
 marks_are n S bytes marks small inside e m v =
-    ⊎_elim (λ (l : v < n). get_or-take n marks v false l ∙ m v (omega arith) ∙ ap (λ (bs : List ℕ). member bs v) e ∙ member_below S v (omega arith))
+    ⊎_elim (λ (l : v < n). get_or-take n marks v false l ∙ m v ∙ ap (λ (bs : List ℕ). member bs v) e ∙ member_below S v (omega arith))
     (λ (l : n ≤ v). get_or_past (take n marks) v false (omega (arith, length-take n marks)) ∙ sym (not_in (S v) (λ t. let i = inside v t in omega arith)))
     (order v n)
 
 same_marks : (n : ℕ) (S : Junctions) (before after : List ℕ) (marks : List Bool) → n ≤ 250 → ((v : ℕ) → S v ≡ true → v < n) → length before ≡ 32 → after ≡ set_bytes S ++ drop 32 before
-    → ((v : ℕ) → v < 256 → marked marks v ≡ member after v) → ◌≡◌ {A = Junctions} (marked (take n marks)) S
+    → ((v : ℕ) → marked marks v ≡ member after v) → ◌≡◌ {A = Junctions} (marked (take n marks)) S
 same_marks n S before after marks small inside l e m =
     let b : after ≡ set_bytes S = e ∙ ap (λ (xs : List ℕ). set_bytes S ++ xs) (drop_all 32 before (omega arith)) ∙ append-nil (set_bytes S) in
     let h = marks_are n S after marks (omega arith) inside b m in
@@ -104,7 +104,7 @@ HurdleThere p b = (S : Junctions) × HurdleShown (view p) S × Filled b 32 (set_
 
 -- a cut as marks
 pub cut_marked : (p : Planner Fifo) (side : Side) (before after : List ℕ) (a : ℕ × ℤ) (marks : List Bool) → length before ≡ 32
-    → CutSeen (view p) side (record { before = before; answer = Ok a; after = after }) → ((v : ℕ) → v < 256 → marked marks v ≡ member after v)
+    → CutSeen (view p) side (record { before = before; answer = Ok a; after = after }) → ((v : ℕ) → marked marks v ≡ member after v)
     → Extreme side p.plant.aim (plant_in p) (marked (take p.plant.n marks))
 cut_marked p side before after a marks l read m =
     let r = opened (record { before = before; answer = Ok a; after = after }) a (first_of (test_flow p.state) (test_room {A = ℕ × ℤ} (record { before = before; answer = Ok a; after = after }) 32))
@@ -114,7 +114,7 @@ cut_marked p side before after a marks l read m =
 
 -- a hurdle as marks, and its shortfall
 pub hurdle_marked : (p : Planner Fifo) (before after : List ℕ) (a : ℕ × ℕ) (marks : List Bool) → length before ≡ 32
-    → HurdleSeen (view p) (record { before = before; answer = Ok a; after = after }) → ((v : ℕ) → v < 256 → marked marks v ≡ member after v)
+    → HurdleSeen (view p) (record { before = before; answer = Ok a; after = after }) → ((v : ℕ) → marked marks v ≡ member after v)
     → WorstHurdle (plant_in p) (marked (take p.plant.n marks)) × (a.1 ≡ shortfall (plant_in p) (marked (take p.plant.n marks))) × (a.1 ≤ 1000000000)
 hurdle_marked p before after a marks l read m =
     let r = opened (record { before = before; answer = Ok a; after = after }) a (first_of (test_hurdle p.state) (test_room {A = ℕ × ℕ} (record { before = before; answer = Ok a; after = after }) 32))

@@ -9,7 +9,6 @@ ghost use Rattle.planner.specs.Cuts.{Extreme};
 ghost use Rattle.planner.specs.declared.machine.State.TheVariants.{SettledFlow, SettledImpossible};
 ghost use Rattle.planner.specs.Standing.{Sound, arcs_in, plant_in};
 ghost use Rattle.planner.specs.Works.{in_work};
-ghost use Rattle.reach.specs.Sets.{member};
 ghost use Rattle.text.specs.Text.{SmallFlows};
 
 use arrayvec::ArrayVec;
@@ -17,7 +16,6 @@ use chooser::Fifo;
 use planner::{MAX_WORK, Outcome, Planner, Side};
 use plant::{Decline, MAX_LINES, Marks};
 use reach::JunctionSet;
-use std::array;
 
 // Works until the question is settled.
 pub(super) fn settle(planner: &mut Planner<Fifo>) -> Result<Outcome, Decline>
@@ -60,22 +58,14 @@ pub(super) fn read_flows(
     Ok(flows)
 }
 
-// The members of a set as marks.
-fn marks_of(bytes: &[u8; 32]) -> Marks
-    ensures { (v : ℕ) → v < 256 → marked result v ≡ member bytes.now v }
-{
-    let set = JunctionSet { bytes: *bytes };
-    array::from_fn(|v| set.contains(v as u8))
-}
-
 // The near or the far cut of the settled flow, as marks below the number of junctions.
 pub(super) fn read_cut(planner: &Planner<Fifo>, side: Side) -> Result<Marks, Decline>
     requires { (Sound holds planner.now) × (planner.now.state ≡ SettledFlow) }
     ensures { MatchResult result (λ marks. Extreme side planner.now.plant.aim (plant_in planner.now) (marked (take planner.now.plant.n marks))) (λ _. ⊥) }
 {
-    let mut bytes = [0u8; 32];
-    planner.cut(side, &mut bytes)?;
-    Ok(marks_of(&bytes))
+    let mut set = JunctionSet::new();
+    planner.cut(side, &mut set.bytes)?;
+    Ok(set.marks())
 }
 
 // The hurdle of the impossible plant, as marks below the number of junctions, and its shortfall.
@@ -84,7 +74,7 @@ pub(super) fn read_hurdle(planner: &Planner<Fifo>) -> Result<(Marks, u64), Decli
     ensures worst { MatchResult result (λ x. WorstHurdle (plant_in planner.now) (marked (take planner.now.plant.n x.0))) (λ _. ⊥) }
     ensures shortfall { MatchResult result (λ x. (x.1 ≡ shortfall (plant_in planner.now) (marked (take planner.now.plant.n x.0))) × (x.1 < 2 ^ 32)) (λ _. ⊥) }
 {
-    let mut bytes = [0u8; 32];
-    let (_, shortfall) = planner.hurdle(&mut bytes)?;
-    Ok((marks_of(&bytes), shortfall))
+    let mut set = JunctionSet::new();
+    let (_, shortfall) = planner.hurdle(&mut set.bytes)?;
+    Ok((set.marks(), shortfall))
 }
