@@ -2,6 +2,7 @@
 use Rattle.std.specs.Prelude.{ℕ, ◌+◌}
 use Rattle.planner.specs.declared.answer.Tally.{Tally}
 
+-- nothing done yet
 abbrev pub no_tally : Tally
 no_tally = record { relabels = 0; discharges = 0 }
 

@@ -20,6 +20,8 @@ pub enum State {
 
 /// A planner with the chooser that it was made with: its question, the network of the stage, what each stage has done,
 /// and where it stands.
+// That it is sound stands in the calls' contracts and not here: a ghost field is to be a proposition, and soundness holds
+// the junctions taken and the states found.
 #[derive(Drop)]
 pub struct Planner<C> {
     plant: HeldPlant,

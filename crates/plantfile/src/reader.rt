@@ -108,6 +108,7 @@ fn read_body(
     ensures room { room waiting.new ≡ room waiting.old }
     ensures told { Told (after (length body.now + 1) n [] [] body.now) result lines.old lines.new (room waiting.old) (items waiting.old) (items waiting.new) }
 {
+    // Counted by hand: a line or a trial counts whether or not there is a place for it.
     let mut drawn = 0;
     let mut tried = 0;
     let mut rest = body;

@@ -47,6 +47,7 @@ pub fn put_active<C: Chooser>(stage: Stage, rows: &[Row], chooser: &mut C)
     requires { length rows.now ≡ stage.junctions }
     ensures { PutAll (Puts C.Chooser.has C.Chooser.puts) chooser.old (begin_puts stage.junctions stage.start stage.goal rows.now) chooser.new }
 {
+    // Over the numbers and not the rows: the chooser takes numbers.
     for v in 0..stage.junctions {
         if stage.is_active(rows, v) {
             chooser.put(v, rows[v as usize].label);

@@ -74,6 +74,7 @@ fn push_surpluses(n: u8, lines: &[Line], held: &mut Lines)
     requires room { length held.old.items ≤ 1001 }
     ensures { arcs held.new.items ≡ arcs held.old.items ++ map empty_arc (surplus_lines n lines.now n) }
 {
+    // Over the numbers: the junctions of a plant are nothing else.
     for v in 0..n {
         if let Some(line) = surplus_line(n, v, surplus_at(lines, v)) {
             held.push(line);

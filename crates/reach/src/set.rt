@@ -65,6 +65,7 @@ impl JunctionSet {
         ensures count { result ≡ size (member self.now.bytes) 256 }
         ensures rest { drop result out.new ≡ drop result out.old }
     {
+        // Counted by hand: the buffer is the caller's, and what is behind the members stays as it was.
         let mut count = 0;
         for v in 0..=u8::MAX {
             if self.contains(v) {

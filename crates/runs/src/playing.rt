@@ -53,6 +53,7 @@ fn read_crossing<C: Chooser>(
     ensures { IfOk result (Reads C.Chooser.has planner.now (Crossing side room)) }
 {
     let mut numbers = vec![in heap; 0u16; room as usize]?;
+    // A match and no `map`: the proof does not follow the vector into a closure that shortens it and gives it away.
     match planner.crossing(side, &mut numbers) {
         Ok(count) => {
             numbers.truncate(count);

@@ -51,6 +51,7 @@ pub(super) fn read_flows(
     ensures small { IfOk result (λ flows. SmallFlows flows.items) }
 {
     let mut flows = ArrayVec::new();
+    // Over the numbers: `flow` is asked by a line's number.
     for line in 0..lines {
         let flow = planner.flow(line)?;
         flows.push(flow);
