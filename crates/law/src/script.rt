@@ -19,28 +19,17 @@ pub enum Call {
     /// Works on it by at most so many steps.
     Work(u32),
     /// Takes up and settles what is given, with other limits on one line.
-    Trial {
-        given: Given,
-        trial: Trial,
-    },
+    Trial { given: Given, trial: Trial },
     /// Reads the total settled.
     Total,
     /// Reads the flow of one line.
     Flow(u16),
     /// Reads the near or the far cut.
-    Cut {
-        side: Side,
-        room: u16,
-    },
+    Cut { side: Side, room: u16 },
     /// Reads the numbers of the lines that cross that cut forward.
-    Crossing {
-        side: Side,
-        room: u16,
-    },
+    Crossing { side: Side, room: u16 },
     /// Reads the hurdle of an impossible plant.
-    Hurdle {
-        room: u16,
-    },
+    Hurdle { room: u16 },
     /// Reads how often each stage relabelled and discharged.
     Tallies,
 }

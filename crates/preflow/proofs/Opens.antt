@@ -57,6 +57,12 @@ shift_count hs ls k as' j h =
     let d = length-map (map shifted (take k ls)) empty_arc ∙ length-map (take k ls) shifted ∙ length-take-le k ls j in
     omega (arith, c, d, length-map hs arc)
 
+-- from no line on, as many lines as were shifted
+pub shifted_count : (before after : List HeldLine) (ls : List Line) → before ≡ [] → arcs after ≡ arcs before ++ map empty_arc (map shifted ls) → length after ≡ length ls
+shifted_count before after ls none h =
+    let e : length (arcs after) ≡ length (map empty_arc (map shifted ls)) = ap length (h ∙ ap (λ (hs : List HeldLine). arcs hs ++ map empty_arc (map shifted ls)) none) in
+    sym (length-map after arc) ∙ e ∙ length-map (map shifted ls) empty_arc ∙ length-map ls shifted
+
 second_push : (ls : List Line) (as' : List Arc) (l : Line) (a : Arc) → length ls ≡ length as' →
     second_arcs (ls ++ l ∷ []) (as' ++ a ∷ []) ≡ second_arcs ls as' ++ record { line = l; flow = low_of l + a.flow } ∷ []
 second_push [] [] l a e = refl

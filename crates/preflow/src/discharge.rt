@@ -57,7 +57,7 @@ fn lowest(lines: &[HeldLine], rows: &[Row], v: u8, most: u32) -> u32
 }
 
 /// Discharges `v`; answers whether it was relabelled.
-pub fn discharge<C: Chooser>(
+pub fn discharge_junction<C: Chooser>(
     stage: Stage,
     lines: &mut [HeldLine],
     rows: &mut [Row],

@@ -9,6 +9,7 @@ mod push;
 mod rows;
 mod stages;
 
+pub use discharge::discharge_junction;
 pub use network::{HELD_LINES, Lines, Network};
 pub use rows::{ROWS, Rows};
 pub use stages::Stage;

@@ -11,7 +11,7 @@ ghost use Rattle.stage.specs.Runs.{Tied};
 ghost use Rattle.stage.specs.States.{Balanced};
 
 use super::begin::{begin_rows, put_active};
-use super::discharge::discharge;
+use super::discharge::discharge_junction;
 use super::opening;
 use super::rows::Rows;
 use super::stages::Stage;
@@ -39,8 +39,16 @@ impl<C: Chooser> Network<C> {
         ensures chooser { result.chooser ≡ chooser }
         ensures lines { result.lines.items ≡ [] }
     {
+        Network::with_lines(ArrayVec::new(), chooser)
+    }
+
+    /// The lines given, and no row yet.
+    pub fn with_lines(lines: Lines, chooser: C) -> Network<C>
+        ensures chooser { result.chooser ≡ chooser }
+        ensures lines { result.lines ≡ lines }
+    {
         Network {
-            lines: ArrayVec::new(),
+            lines,
             rows: ArrayVec::new(),
             chooser,
         }
@@ -57,6 +65,8 @@ impl<C: Chooser> Network<C> {
     /// Holds the lines of stage one, with no flow.
     pub fn open_first(&mut self, plant: &HeldPlant)
         ensures lines { arcs self.new.lines.items ≡ first_arcs (plant_of plant.now) }
+        ensures number { length self.new.lines.items ≡ length (first_arcs (plant_of plant.now)) }
+        ensures few { length self.new.lines.items ≤ 1251 }
         ensures light { Light (arcs self.new.lines.items) }
         ensures chooser { self.new.chooser ≡ self.old.chooser }
     {
@@ -67,6 +77,8 @@ impl<C: Chooser> Network<C> {
     pub fn open_second(&mut self, plant: &HeldPlant)
         requires { lines_of (arcs (take (length (plant_of plant.now).lines) self.old.lines.items)) ≡ map shifted (plant_of plant.now).lines }
         ensures lines { arcs self.new.lines.items ≡ second_arcs (plant_of plant.now).lines (arcs self.old.lines.items) }
+        ensures number { length self.new.lines.items ≡ length (plant_of plant.now).lines }
+        ensures few { length self.new.lines.items ≤ 1000 }
         ensures light { Light (arcs self.new.lines.items) }
         ensures chooser { self.new.chooser ≡ self.old.chooser }
     {
@@ -96,7 +108,7 @@ impl<C: Chooser> Network<C> {
         ensures tied { Tied C.Chooser.has stage.start stage.goal self.new.rows.items self.new.chooser }
     {
         let v = self.chooser.take()?;
-        let relabelled = discharge(
+        let relabelled = discharge_junction(
             stage,
             self.lines.as_mut_slice(),
             self.rows.as_mut_slice(),
@@ -127,7 +139,6 @@ impl<C: Chooser> Network<C> {
 
     /// Whether any junction of the stage is active.
     pub fn any_active(&self, stage: Stage) -> bool
-        requires { length self.now.rows.items ≡ stage.junctions }
         ensures { AnyActive stage.start stage.goal self.now.rows.items result }
     {
         stage.any_active(self.rows.as_slice())

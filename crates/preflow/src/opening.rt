@@ -72,7 +72,8 @@ fn push_surpluses(n: u8, lines: &[Line], held: &mut Lines)
     requires fine { (k : ℕ) → k < length lines.now → Fine 250 (slice_index_or lines.now k no_line) }
     requires junctions { n ≤ 250 }
     requires room { length held.old.items ≤ 1001 }
-    ensures { arcs held.new.items ≡ arcs held.old.items ++ map empty_arc (surplus_lines n lines.now n) }
+    ensures lines { arcs held.new.items ≡ arcs held.old.items ++ map empty_arc (surplus_lines n lines.now n) }
+    ensures few { length held.new.items ≤ length held.old.items + n }
 {
     // Over the numbers: the junctions of a plant are nothing else.
     for v in 0..n {
@@ -85,6 +86,8 @@ fn push_surpluses(n: u8, lines: &[Line], held: &mut Lines)
 /// The lines of stage one: the plant's, tank to header, and one for each surplus.
 pub fn open_first(plant: &HeldPlant, held: &mut Lines)
     ensures lines { arcs held.new.items ≡ first_arcs (plant_of plant.now) }
+    ensures number { length held.new.items ≡ length (first_arcs (plant_of plant.now)) }
+    ensures few { length held.new.items ≤ 1251 }
     ensures light { Light (arcs held.new.items) }
 {
     let lines = plant.lines();
@@ -120,6 +123,8 @@ fn settle_lines(lines: &[Line], held: &mut [HeldLine])
 pub fn open_second(plant: &HeldPlant, held: &mut Lines)
     requires { lines_of (arcs (take (length (plant_of plant.now).lines) held.old.items)) ≡ map shifted (plant_of plant.now).lines }
     ensures lines { arcs held.new.items ≡ second_arcs (plant_of plant.now).lines (arcs held.old.items) }
+    ensures number { length held.new.items ≡ length (plant_of plant.now).lines }
+    ensures few { length held.new.items ≤ 1000 }
     ensures light { Light (arcs held.new.items) }
 {
     let lines = plant.lines();

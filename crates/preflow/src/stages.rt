@@ -59,11 +59,11 @@ impl Stage {
         v != self.start && v != self.goal
     }
 
-    /// Whether any junction is active.
-    pub fn any_active(self, rows: &[Row]) -> bool
-        requires { length rows.now ≡ self.junctions }
+    // Whether any junction is active; a row is asked by its junction's number.
+    pub(super) fn any_active(self, rows: &[Row]) -> bool
+        requires { length rows.now ≤ 252 }
         ensures { AnyActive self.start self.goal rows.now result }
     {
-        (0..self.junctions).any(|v| self.is_active(rows, v))
+        (0..rows.len() as u8).any(|v| self.is_active(rows, v))
     }
 }

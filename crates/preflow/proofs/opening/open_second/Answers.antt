@@ -3,7 +3,7 @@ use Rattle.arrayvec.proofs.ArrayVecLemmas.{items-with_items}
 use Rattle.plant.specs.declared.line.Line.{Line}
 use Rattle.plant.specs.Held.{arcs, lines_of, plant_of}
 use Rattle.stage.specs.First.{second_arcs, shifted}
-use Rattle.preflow.proofs.Opens.{second_cut, second_light}
+use Rattle.preflow.proofs.Opens.{second_cut, second_light, settle_count}
 use Rattle.preflow.proofs.Standing.{light_like}
 use Rattle.preflow.proofs.opening.open_second.Goals as goal
 
@@ -26,4 +26,6 @@ returns c =
     let hs = c.args.held.now.items in
     let w = items-with_items c.truncate.new.self c.settle_lines.new.held (omega (arith, c.settle_lines.auto.held, ap length c.as_mut_slice.ensures.value)) in
     let e = ap arcs w ∙ c.settle_lines.ensures ∙ ap (λ xs. second_arcs ls (arcs xs)) (c.as_mut_slice.ensures.value ∙ c.truncate.ensures.items) ∙ second_cut ls hs ∙ ap (λ l. second_arcs l (arcs hs)) c.lines-lines.ensures.value in
-    record { lines = e; light = light_like _ (second_arcs p.lines (arcs hs)) e (second_light p.junctions p.lines c.args.plant.now.few c.args.plant.now.fine (arcs hs)) }
+    let kept : length (take (length p.lines) hs) ≡ length p.lines = settle_count (take (length p.lines) hs) p.lines c.requires in
+    let n : length c.settle_lines.new.held ≡ length p.lines = c.settle_lines.auto.held ∙ ap length (c.as_mut_slice.ensures.value ∙ c.truncate.ensures.items) ∙ ap (λ xs. length (take (length xs) hs)) c.lines-lines.ensures.value ∙ kept in
+    record { lines = e; number = ap length w ∙ n; few = omega (arith, ap length w, n, c.args.plant.now.few); light = light_like _ (second_arcs p.lines (arcs hs)) e (second_light p.junctions p.lines c.args.plant.now.few c.args.plant.now.fine (arcs hs)) }

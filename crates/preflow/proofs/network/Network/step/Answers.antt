@@ -8,7 +8,7 @@ use Rattle.preflow.proofs.network.Network.step.Goals as goal
 pub returns : goal.returns
 returns g c =
     let st = c.args.stage in
-    let d = c.discharge-relabelled in
+    let d = c.discharge_junction-relabelled in
     let eh = items-with_items c.args.self.now.lines d.new.lines (omega (arith, d.auto.lines, ap length c.as_mut_slice.ensures.value)) in
     let er = items-with_items c.args.self.now.rows d.new.rows (omega (arith, d.auto.rows, ap length c.as_mut_slice-2.ensures.value)) in
     let r = step_done g.C.Chooser.has g.C.Chooser.clears g.C.Chooser.puts g.C.Chooser.takes st.junctions st.start st.goal c.in_ok-v.v

@@ -8,7 +8,7 @@ use Rattle.stage.proofs.Keeps.{lowest_start, scan_holds}
 use Rattle.stage.proofs.Rows.{one_sided}
 use Rattle.preflow.proofs.Discharges.{spent, left}
 use Rattle.preflow.proofs.Standing.{sound_like}
-use Rattle.preflow.proofs.discharge.discharge.Goals as goal
+use Rattle.preflow.proofs.discharge.discharge_junction.Goals as goal
 
 pub bounds-rows-v : goal.bounds-rows-v
 bounds-rows-v g c =
