@@ -1,5 +1,5 @@
 //! Sums over the lines of a plant.
-ghost use Rattle.std.specs.Prelude.{◌≡◌, ◌^◌, ◌<◌, ◌≤◌, length, ℤ, pos, neg_ℤ, ◌≤ℤ◌, sum_by};
+ghost use Rattle.std.specs.Prelude.{◌≡◌, ◌==◌, ◌^◌, ◌<◌, ◌≤◌, cond, length, ℤ, pos, neg_ℤ, ◌≤ℤ◌, sum_by};
 ghost use Rattle.std.specs.Fn.{FnReturnsAt};
 ghost use Rattle.plant.specs.Held.{arc, arcs, flows_of, lines_of, marked};
 ghost use Rattle.plant.specs.Plants.{backward, bound_over, every, forward, high_of, leads_out, list_total, shortfall_over, summed, surplus};
@@ -73,18 +73,22 @@ pub fn shortfall(lines: &[Line], set: &Marks) -> u64
     bound(Aim::Greatest, lines, set).min(0).unsigned_abs()
 }
 
+// What the line brings to a junction and what it takes from it, where it carries `amount`.
+fn brought_and_taken(line: &Line, v: u8, amount: u32) -> (i64, i64)
+    ensures brought { result.0 ≡ pos (cond (line.now.to == v) amount 0) }
+    ensures taken { result.1 ≡ pos (cond (line.now.from == v) amount 0) }
+{
+    let at_end = |end| if end == v { i64::from(amount) } else { 0 };
+    (at_end(line.to), at_end(line.from))
+}
+
 // What the line adds to the surplus of a junction.
 fn surplus_share(line: &Line, v: u8) -> i64
     ensures value { result ≡ at_junction v line.now }
     ensures small { Small result }
 {
-    let comes = if line.to == v { i64::from(line.low) } else { 0 };
-    let goes = if line.from == v {
-        i64::from(line.low)
-    } else {
-        0
-    };
-    comes - goes
+    let (brought, taken) = brought_and_taken(line, v, line.low);
+    brought - taken
 }
 
 /// The lows that lead into a junction less the lows that lead out.
@@ -100,17 +104,8 @@ fn total_share(held: &HeldLine) -> i64
     ensures value { result ≡ at_header (arc held.now) }
     ensures small { Small result }
 {
-    let goes = if held.line.from == 0 {
-        i64::from(held.flow)
-    } else {
-        0
-    };
-    let comes = if held.line.to == 0 {
-        i64::from(held.flow)
-    } else {
-        0
-    };
-    goes - comes
+    let (brought, taken) = brought_and_taken(&held.line, 0, held.flow);
+    taken - brought
 }
 
 /// The total of the flow: what leaves the header less what enters it.

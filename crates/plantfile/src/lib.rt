@@ -6,6 +6,7 @@ mod reader;
 mod writer;
 
 pub use laws::{reads_back, writes_again, writes_in_order, written_reads_back};
+pub use plant::Trial;
 pub use reader::{Heading, MAX_TRIALS, read_file};
 pub use writer::{test_each, write_file};
 

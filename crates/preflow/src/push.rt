@@ -18,13 +18,7 @@ use stage::Row;
 fn smaller(excess: i64, residual: u32) -> u32
     ensures { result ≡ min (up excess) residual }
 {
-    if excess <= 0 {
-        0
-    } else if excess < i64::from(residual) {
-        excess as u32
-    } else {
-        residual
-    }
+    excess.clamp(0, i64::from(residual)) as u32
 }
 
 // How much is due from `v` by a line: nothing but where the label of `v` is that of the other end plus 1. Most lines

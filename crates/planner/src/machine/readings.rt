@@ -137,12 +137,10 @@ impl<C: Chooser> Planner<C> {
         ensures facts { Sound C.Chooser.has self.now → Facts (view self.now).state (view self.now) }
     {
         expect_flow(self.state)?;
-        let lines = self.network.lines();
-        let at = line as usize;
-        if at >= lines.len() {
-            return Err(Decline::LineNumber);
+        match self.network.lines().get(line as usize) {
+            Some(held) => Ok(held.flow),
+            None => Err(Decline::LineNumber),
         }
-        Ok(lines[at].flow)
     }
 
     /// The near or the far cut into the first 32 bytes of `out`; answers its number of junctions and its bound.
