@@ -16,6 +16,7 @@ pub const COMMAND_LEN: usize = 11;
 #[derive(Clone, Copy, PartialEq, Eq, Debug)]
 pub struct Heading {
     pub n: u8,
+    // Beside the caller's slice: it counts the lines that have no place there, too.
     pub lines: usize,
     pub aim: Aim,
 }

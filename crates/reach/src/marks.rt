@@ -11,6 +11,7 @@ pub fn select<F: Fn(bool) -> bool>(n: u8, marks: &Marks, accepts: F) -> Marks
     ensures beyond { (v : ℕ) → n ≤ v → marked result v ≡ false }
 {
     let mut selected = [false; 256];
+    // A loop over places: by `from_fn` and by `zip` the proof did not close.
     for (v, mark) in marks[..n as usize].iter().enumerate() {
         selected[v] = accepts(*mark);
     }

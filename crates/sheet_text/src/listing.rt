@@ -88,6 +88,7 @@ pub fn write_listing(file: &[u8], out: &mut [u8]) -> Result<usize, Decline>
     expect_room(out)?;
     let lines = &mut lines[..heading.lines];
     let mut planner = Planner::new(Fifo::new());
+    // By its number: the call takes any byte, and tests it.
     planner.start(heading.n, lines, u8::from(heading.aim))?;
     let outcome = settle(&mut planner)?;
     let mut question = Question {

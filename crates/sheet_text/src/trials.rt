@@ -39,6 +39,7 @@ impl<'q, 'w> Question<'q, 'w> {
         let total = match self.planner.trial(
             self.heading.n,
             self.lines,
+            // By its number: the call takes any byte, and tests it.
             u8::from(self.heading.aim),
             trial,
         )? {

@@ -171,6 +171,7 @@ pub fn put_declined(decline: Decline, out: &mut [u8]) -> usize
     ensures short { result ≤ 16384 }
     ensures text { Puts (declined_text (number_of decline)) out.old 0 result out.new }
 {
+    // By pieces and not by `Display`: writing may answer an error there, and here nothing may fail.
     let mut page = Page::new(out);
     page.put(b"DECLINED ");
     page.put_number(u8::from(decline) as u64);

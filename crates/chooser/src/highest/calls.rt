@@ -15,6 +15,7 @@ fn best(order: &[u8], labels: &[u32]) -> usize
     ensures highest { (k : ℕ) → k < length order.now → slice_index labels.now (slice_index order.now k) ≤ slice_index labels.now (slice_index order.now result) }
     ensures earliest { (k : ℕ) → k < result → slice_index labels.now (slice_index order.now k) < slice_index labels.now (slice_index order.now result) }
 {
+    // A loop: `max_by_key` answers the last of equals, and the first is asked for.
     let mut at = 0;
     for (i, v) in order.iter().enumerate() {
         if labels[*v as usize] > labels[order[at] as usize] {

@@ -35,6 +35,7 @@ impl<C: Chooser> Planner<C> {
     }
 
     /// Copies the question and opens stage one; an earlier question is gone.
+    // Three parameters and no struct: a trial borrows the list to change it, and a start only to read it.
     pub fn start(&mut self, n: u8, lines: &[Line], aim: u8) -> Result<(), Decline>
         requires { Sound C.Chooser.has self.old }
         ensures starts { Starts C.Chooser.has C.Chooser.clears C.Chooser.puts C.Chooser.takes n lines.now aim self.old result self.new }
@@ -51,6 +52,7 @@ impl<C: Chooser> Planner<C> {
         ensures works { Works C.Chooser.has C.Chooser.clears C.Chooser.puts C.Chooser.takes number self.old result self.new }
         ensures sound { Sound C.Chooser.has self.new }
     {
+        // A match and no table of steps: which stage goes on is where the planner stands.
         match self.state {
             State::StageOne | State::StageTwo if is_bad_number(number) => Err(Decline::WorkNumber),
             State::StageOne => Ok(self.run_from_one(number)),
