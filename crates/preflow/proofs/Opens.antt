@@ -57,6 +57,10 @@ shift_count hs ls k as' j h =
     let d = length-map (map shifted (take k ls)) empty_arc ∙ length-map (take k ls) shifted ∙ length-take-le k ls j in
     omega (arith, c, d, length-map hs arc)
 
+-- a fine line of few junctions is one of 250
+pub fine_here : (n : ℕ) (l : Line) → n ≤ 250 → Fine n l → Fine 250 l
+fine_here n l h f = (omega (arith, f.0, h), omega (arith, f.1, h), f.2, f.3, f.4)
+
 -- from no line on, as many lines as were shifted
 pub shifted_count : (before after : List HeldLine) (ls : List Line) → before ≡ [] → arcs after ≡ arcs before ++ map empty_arc (map shifted ls) → length after ≡ length ls
 shifted_count before after ls none h =
@@ -191,17 +195,15 @@ pub pushed_none : (hs hs' : List HeldLine) (o : Option HeldLine) → o ≡ None 
 pushed_none hs hs' o eo eh = rw (eo, eh) (sym (append-nil (arcs hs)))
 
 -- the lines of stage one in their parts
-pub first_opened : (ls ls' : List Line) (n n' : ℕ) (hs₀ hs₁ hs₂ hs₃ : List HeldLine) (y : HeldLine) (high : ℕ) → ls ≡ ls' → n ≡ n' → hs₀ ≡ [] →
+pub first_opened : (ls : List Line) (n : ℕ) (hs₀ hs₁ hs₂ hs₃ : List HeldLine) (y : HeldLine) (high : ℕ) → hs₀ ≡ [] →
     arcs hs₁ ≡ arcs hs₀ ++ map empty_arc (map shifted ls) → arc y ≡ empty_arc (added_line 1 0 high) → high ≡ summed every high_of ls → hs₂ ≡ hs₁ ++ y ∷ [] →
     arcs hs₃ ≡ arcs hs₂ ++ map empty_arc (surplus_lines n ls n) →
-    arcs hs₃ ≡ map empty_arc (map shifted ls' ++ (back_line ls' ∷ surplus_lines n' ls' n'))
-first_opened ls ls' n n' hs₀ hs₁ hs₂ hs₃ y high el en none h e eh e₂ q =
+    arcs hs₃ ≡ map empty_arc (map shifted ls ++ (back_line ls ∷ surplus_lines n ls n))
+first_opened ls n hs₀ hs₁ hs₂ hs₃ y high none h e eh e₂ q =
     let b = empty_arc (back_line ls) in
     let h' : arcs hs₁ ≡ map empty_arc (map shifted ls) = rw none at h in
     let f : arcs hs₂ ≡ map empty_arc (map shifted ls) ++ b ∷ [] =
     ap arcs e₂ ∙ map-append arc hs₁ (y ∷ []) ∙ ap (λ z. z ++ arc y ∷ []) h' ∙ ap (λ z. map empty_arc (map shifted ls) ++ z ∷ []) (e ∙ ap (λ x. empty_arc (added_line 1 0 x)) eh) in
-    let g : arcs hs₃ ≡ map empty_arc (map shifted ls ++ (back_line ls ∷ surplus_lines n ls n)) =
     q ∙ ap (λ x. x ++ map empty_arc (surplus_lines n ls n)) f
     ∙ append_assoc (map empty_arc (map shifted ls)) (b ∷ []) (map empty_arc (surplus_lines n ls n))
-    ∙ sym (map-append empty_arc (map shifted ls) (back_line ls ∷ surplus_lines n ls n)) in
-    rw (el, en) at g
+    ∙ sym (map-append empty_arc (map shifted ls) (back_line ls ∷ surplus_lines n ls n))

@@ -25,12 +25,11 @@ fn shifted(line: Line) -> HeldLine
 }
 
 // The plant's lines in stage one, after those that are held.
-fn push_shifted(lines: &[Line], held: &mut Lines)
-    requires few { length lines.now + length held.old.items ≤ 1252 }
-    requires fine { (k : ℕ) → k < length lines.now → Fine 250 (slice_index_or lines.now k no_line) }
-    ensures { arcs held.new.items ≡ arcs held.old.items ++ map empty_arc (map shifted lines.now) }
+fn push_shifted(plant: &HeldPlant, held: &mut Lines)
+    requires { length held.old.items ≤ 252 }
+    ensures { arcs held.new.items ≡ arcs held.old.items ++ map empty_arc (map shifted (plant_of plant.now).lines) }
 {
-    for line in lines {
+    for line in plant.lines() {
         held.push(shifted(*line));
     }
 }
@@ -67,17 +66,15 @@ fn surplus_line(n: u8, v: u8, surplus: i64) -> Option<HeldLine>
 }
 
 // The lines of the junctions' surpluses, after those that are held.
-fn push_surpluses(n: u8, lines: &[Line], held: &mut Lines)
-    requires few { length lines.now ≤ 1000 }
-    requires fine { (k : ℕ) → k < length lines.now → Fine 250 (slice_index_or lines.now k no_line) }
-    requires junctions { n ≤ 250 }
-    requires room { length held.old.items ≤ 1001 }
-    ensures lines { arcs held.new.items ≡ arcs held.old.items ++ map empty_arc (surplus_lines n lines.now n) }
-    ensures few { length held.new.items ≤ length held.old.items + n }
+fn push_surpluses(plant: &HeldPlant, held: &mut Lines)
+    requires { length held.old.items ≤ 1001 }
+    ensures lines { arcs held.new.items ≡ arcs held.old.items ++ map empty_arc (surplus_lines plant.now.n (plant_of plant.now).lines plant.now.n) }
+    ensures few { length held.new.items ≤ length held.old.items + plant.now.n }
 {
+    let n = plant.junctions();
     // Over the numbers: the junctions of a plant are nothing else.
     for v in 0..n {
-        if let Some(line) = surplus_line(n, v, surplus_at(lines, v)) {
+        if let Some(line) = surplus_line(n, v, surplus_at(plant.lines(), v)) {
             held.push(line);
         }
     }
@@ -90,11 +87,10 @@ pub fn open_first(plant: &HeldPlant, held: &mut Lines)
     ensures few { length held.new.items ≤ 1251 }
     ensures light { Light (arcs held.new.items) }
 {
-    let lines = plant.lines();
     held.clear();
-    push_shifted(lines, held);
-    held.push(added(1, 0, sum_of_highs(lines) as u32));
-    push_surpluses(plant.junctions(), lines, held);
+    push_shifted(plant, held);
+    held.push(added(1, 0, sum_of_highs(plant.lines()) as u32));
+    push_surpluses(plant, held);
 }
 
 // A plant's line in stage two, with the flow that stage one found above its low.
@@ -109,12 +105,11 @@ fn settled(line: Line, found: u32) -> HeldLine
 }
 
 // The plant's lines in stage two.
-fn settle_lines(lines: &[Line], held: &mut [HeldLine])
-    requires fine { (k : ℕ) → k < length lines.now → Fine 250 (slice_index_or lines.now k no_line) }
-    requires shifted { lines_of (arcs held.old) ≡ map shifted lines.now }
-    ensures { arcs held.new ≡ second_arcs lines.now (arcs held.old) }
+fn settle_lines(plant: &HeldPlant, held: &mut [HeldLine])
+    requires { lines_of (arcs held.old) ≡ map shifted (plant_of plant.now).lines }
+    ensures { arcs held.new ≡ second_arcs (plant_of plant.now).lines (arcs held.old) }
 {
-    for (k, line) in lines.iter().enumerate() {
+    for (k, line) in plant.lines().iter().enumerate() {
         held[k] = settled(*line, held[k].flow);
     }
 }
@@ -127,7 +122,6 @@ pub fn open_second(plant: &HeldPlant, held: &mut Lines)
     ensures few { length held.new.items ≤ 1000 }
     ensures light { Light (arcs held.new.items) }
 {
-    let lines = plant.lines();
-    held.truncate(lines.len());
-    settle_lines(lines, held.as_mut_slice());
+    held.truncate(plant.lines().len());
+    settle_lines(plant, held.as_mut_slice());
 }

@@ -6,4 +6,4 @@ use Rattle.preflow.proofs.opening.push_surpluses.Given as goal
 abbrev pub invariant-loop-v : goal.invariant-loop-v
 invariant-loop-v l =
     (length l.held.items ≤ length l.initial.held.items + l.v)
-    × (arcs l.held.items ≡ arcs l.initial.held.items ++ map empty_arc (surplus_lines l.n l.lines l.v))
+    × (arcs l.held.items ≡ arcs l.initial.held.items ++ map empty_arc (surplus_lines l.n l.plant.lines.items l.v))
