@@ -115,21 +115,6 @@ fn bad_trials<C: Chooser>(planner: &mut Planner<C>, seen: &Seen) -> bool
     true
 }
 
-// Declined works leave the planner as it was; where nothing is in work, so does a work of 1.
-fn bad_works<C: Chooser>(planner: &mut Planner<C>, seen: &Seen, by: Decline) -> bool
-    requires { Sound C.Chooser.has planner.old }
-    ensures { Sound C.Chooser.has planner.new }
-{
-    let none = planner.work(0).err();
-    let many = planner.work(60_001).err();
-    let one = if by == Decline::NothingInWork {
-        planner.work(1).err()
-    } else {
-        Some(by)
-    };
-    [none, many, one] == [Some(by); 3] && Seen::of(planner) == *seen
-}
-
 // Readings of one cut into buffers that are too short, in a state that declines flows by `by`, or by nothing.
 fn bad_cuts<C: Chooser>(planner: &Planner<C>, side: Side, by: Option<Decline>) -> bool {
     let mut short = [7u8; 31];
@@ -156,11 +141,10 @@ fn bad_flows<C: Chooser>(planner: &Planner<C>, by: Option<Decline>) -> bool {
         && planner.flow(65_535).err() == first
 }
 
-// A state, the question and the number of discharges that lead to it, and by what it declines; no line stands for no
-// question.
+// A state, the question's lines, if one is asked, and the number of discharges that lead to it, and by what it declines.
 #[derive(Clone, Copy)]
 struct Way {
-    lines: &'static [Line],
+    lines: Option<&'static [Line]>,
     work: u32,
     state: State,
     work_by: Decline,
@@ -170,7 +154,7 @@ struct Way {
 
 const WAYS: &[Way] = &[
     Way {
-        lines: &[],
+        lines: None,
         work: 0,
         state: State::Idle,
         work_by: Decline::NothingInWork,
@@ -178,7 +162,7 @@ const WAYS: &[Way] = &[
         hurdle_by: Some(Decline::NothingSettled),
     },
     Way {
-        lines: FOUR,
+        lines: Some(FOUR),
         work: 0,
         state: State::StageOne,
         work_by: Decline::WorkNumber,
@@ -186,7 +170,7 @@ const WAYS: &[Way] = &[
         hurdle_by: Some(Decline::NothingSettled),
     },
     Way {
-        lines: FREE,
+        lines: Some(FREE),
         work: 1,
         state: State::StageTwo,
         work_by: Decline::WorkNumber,
@@ -194,7 +178,7 @@ const WAYS: &[Way] = &[
         hurdle_by: Some(Decline::NothingSettled),
     },
     Way {
-        lines: FOUR,
+        lines: Some(FOUR),
         work: 60_000,
         state: State::SettledFlow,
         work_by: Decline::NothingInWork,
@@ -202,7 +186,7 @@ const WAYS: &[Way] = &[
         hurdle_by: Some(Decline::NoHurdle),
     },
     Way {
-        lines: SHORT,
+        lines: Some(SHORT),
         work: 60_000,
         state: State::SettledImpossible,
         work_by: Decline::NothingInWork,
@@ -217,11 +201,32 @@ impl Way {
         requires { Sound C.Chooser.has planner.old }
         ensures { Sound C.Chooser.has planner.new }
     {
-        if !self.lines.is_empty() {
-            let _ = planner.start(4, self.lines, 1);
+        if let Some(lines) = self.lines {
+            let _ = planner.start(4, lines, 1);
         }
         let _ = planner.work(self.work);
         planner.state() == self.state
+    }
+
+    // A stage is open, so that a work of 1 would be done.
+    fn is_in_work(&self) -> bool {
+        matches!(self.state, State::StageOne | State::StageTwo)
+    }
+
+    // Declined works leave the planner as it was; where nothing is in work, so does a work of 1.
+    fn bad_works<C: Chooser>(&self, planner: &mut Planner<C>, seen: &Seen) -> bool
+        requires { Sound C.Chooser.has planner.old }
+        ensures { Sound C.Chooser.has planner.new }
+    {
+        let by = Some(self.work_by);
+        let none = planner.work(0).err();
+        let many = planner.work(60_001).err();
+        let one = if self.is_in_work() {
+            by
+        } else {
+            planner.work(1).err()
+        };
+        [none, many, one] == [by; 3] && Seen::of(planner) == *seen
     }
 
     // All declines of the state.
@@ -233,7 +238,7 @@ impl Way {
         let starts = bad_starts(planner, &seen);
         let lists = bad_lists(planner, &seen);
         let trials = bad_trials(planner, &seen);
-        let works = bad_works(planner, &seen, self.work_by);
+        let works = self.bad_works(planner, &seen);
         starts && lists && trials && works
     }
 
@@ -249,7 +254,7 @@ impl Way {
     fn go_on<C: Chooser>(&self, planner: &mut Planner<C>) -> Seen
         requires { Sound C.Chooser.has planner.old }
     {
-        if self.work_by == Decline::NothingInWork {
+        if !self.is_in_work() {
             let _ = planner.start(4, FOUR, 2);
         }
         let _ = settle(planner, 1);
