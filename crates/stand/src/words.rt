@@ -113,10 +113,9 @@ impl fmt::Display for Words<'_, Given> {
         let given = self.0;
         let junctions = Count(u32::from(given.n), "junction");
         write!(f, "{}, {junctions}:", AimWord(given.aim))?;
-        let mut before = "";
-        for line in given.lines.iter() {
-            write!(f, "{before} {}", Words(line))?;
-            before = ",";
+        for (k, line) in given.lines.iter().enumerate() {
+            let comma = if k == 0 { "" } else { "," };
+            write!(f, "{comma} {}", Words(line))?;
         }
         Ok(())
     }
