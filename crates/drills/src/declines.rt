@@ -61,6 +61,7 @@ fn bad_starts<C: Chooser>(planner: &mut Planner<C>, seen: &Seen) -> bool
     requires { Sound C.Chooser.has planner.old }
     ensures { Sound C.Chooser.has planner.new }
 {
+    // A loop: `all` promises nothing of the planner that its closure changes, and it has to stay sound.
     for &(n, lines, aim, by) in BADS {
         if planner.start(n, lines, aim) != Err(by) || Seen::of(planner) != *seen {
             return false;
@@ -94,6 +95,7 @@ fn bad_lists<C: Chooser>(planner: &mut Planner<C>, seen: &Seen) -> bool
     requires { Sound C.Chooser.has planner.old }
     ensures { Sound C.Chooser.has planner.new }
 {
+    // A loop: `all` promises nothing of the planner that its closure changes, and it has to stay sound.
     for &(n, lines, aim, by) in BADS {
         if !bad_trial(planner, seen, Question { n, lines, aim }, WRONG, by) {
             return false;
@@ -107,6 +109,7 @@ fn bad_trials<C: Chooser>(planner: &mut Planner<C>, seen: &Seen) -> bool
     requires { Sound C.Chooser.has planner.old }
     ensures { Sound C.Chooser.has planner.new }
 {
+    // A loop: `all` promises nothing of the planner that its closure changes, and it has to stay sound.
     for &(line, low, high, by) in LIMITS {
         if !bad_trial(planner, seen, GOOD, Trial { line, low, high }, by) {
             return false;
@@ -141,7 +144,7 @@ fn bad_flows<C: Chooser>(planner: &Planner<C>, by: Option<Decline>) -> bool {
         && planner.flow(65_535).err() == first
 }
 
-// A state, the question's lines, if one is asked, and the number of discharges that lead to it, and by what it declines.
+// A state, the lines of the question, if any, and the number of discharges that lead to it, and by what it declines.
 #[derive(Clone, Copy)]
 struct Way {
     lines: Option<&'static [Line]>,
