@@ -82,12 +82,12 @@ fn bad_trial<C: Chooser>(
     ensures { Sound C.Chooser.has planner.new }
 {
     let mut places = CROWD;
-    let count = asked.lines.len().min(CROWDED);
-    let lines = &asked.lines[..count];
-    let list = &mut places[..count];
-    list.copy_from_slice(lines);
+    let Some(list) = places.get_mut(..asked.lines.len()) else {
+        return false;
+    };
+    list.copy_from_slice(asked.lines);
     let answer = planner.trial(asked.n, list, asked.aim, limits);
-    answer == Err(by) && &*list == lines && Seen::of(planner) == *seen
+    answer == Err(by) && &*list == asked.lines && Seen::of(planner) == *seen
 }
 
 // Trials of such lists are declined by the list's tests, before those of the line's number and the limits.
