@@ -61,6 +61,7 @@ fn bad_starts<C: Chooser>(planner: &mut Planner<C>, seen: &Seen) -> bool
     requires { Sound C.Chooser.has planner.old }
     ensures { Sound C.Chooser.has planner.new }
 {
+    // A loop: `all` promises nothing of the planner that its closure changes, and it has to stay sound.
     for &(n, lines, aim, by) in BADS {
         if planner.start(n, lines, aim) != Err(by) || Seen::of(planner) != *seen {
             return false;
@@ -81,12 +82,12 @@ fn bad_trial<C: Chooser>(
     ensures { Sound C.Chooser.has planner.new }
 {
     let mut places = CROWD;
-    let count = asked.lines.len().min(CROWDED);
-    let lines = &asked.lines[..count];
-    let list = &mut places[..count];
-    list.copy_from_slice(lines);
+    let Some(list) = places.get_mut(..asked.lines.len()) else {
+        return false;
+    };
+    list.copy_from_slice(asked.lines);
     let answer = planner.trial(asked.n, list, asked.aim, limits);
-    answer == Err(by) && &*list == lines && Seen::of(planner) == *seen
+    answer == Err(by) && &*list == asked.lines && Seen::of(planner) == *seen
 }
 
 // Trials of such lists are declined by the list's tests, before those of the line's number and the limits.
@@ -94,6 +95,7 @@ fn bad_lists<C: Chooser>(planner: &mut Planner<C>, seen: &Seen) -> bool
     requires { Sound C.Chooser.has planner.old }
     ensures { Sound C.Chooser.has planner.new }
 {
+    // A loop: `all` promises nothing of the planner that its closure changes, and it has to stay sound.
     for &(n, lines, aim, by) in BADS {
         if !bad_trial(planner, seen, Question { n, lines, aim }, WRONG, by) {
             return false;
@@ -107,27 +109,13 @@ fn bad_trials<C: Chooser>(planner: &mut Planner<C>, seen: &Seen) -> bool
     requires { Sound C.Chooser.has planner.old }
     ensures { Sound C.Chooser.has planner.new }
 {
+    // A loop: `all` promises nothing of the planner that its closure changes, and it has to stay sound.
     for &(line, low, high, by) in LIMITS {
         if !bad_trial(planner, seen, GOOD, Trial { line, low, high }, by) {
             return false;
         }
     }
     true
-}
-
-// Declined works leave the planner as it was; where nothing is in work, so does a work of 1.
-fn bad_works<C: Chooser>(planner: &mut Planner<C>, seen: &Seen, by: Decline) -> bool
-    requires { Sound C.Chooser.has planner.old }
-    ensures { Sound C.Chooser.has planner.new }
-{
-    let none = planner.work(0).err();
-    let many = planner.work(60_001).err();
-    let one = if by == Decline::NothingInWork {
-        planner.work(1).err()
-    } else {
-        Some(by)
-    };
-    [none, many, one] == [Some(by); 3] && Seen::of(planner) == *seen
 }
 
 // Readings of one cut into buffers that are too short, in a state that declines flows by `by`, or by nothing.
@@ -156,11 +144,10 @@ fn bad_flows<C: Chooser>(planner: &Planner<C>, by: Option<Decline>) -> bool {
         && planner.flow(65_535).err() == first
 }
 
-// A state, the question and the number of discharges that lead to it, and by what it declines; no line stands for no
-// question.
+// A state, the lines of the question, if any, and the number of discharges that lead to it, and by what it declines.
 #[derive(Clone, Copy)]
 struct Way {
-    lines: &'static [Line],
+    lines: Option<&'static [Line]>,
     work: u32,
     state: State,
     work_by: Decline,
@@ -170,7 +157,7 @@ struct Way {
 
 const WAYS: &[Way] = &[
     Way {
-        lines: &[],
+        lines: None,
         work: 0,
         state: State::Idle,
         work_by: Decline::NothingInWork,
@@ -178,7 +165,7 @@ const WAYS: &[Way] = &[
         hurdle_by: Some(Decline::NothingSettled),
     },
     Way {
-        lines: FOUR,
+        lines: Some(FOUR),
         work: 0,
         state: State::StageOne,
         work_by: Decline::WorkNumber,
@@ -186,7 +173,7 @@ const WAYS: &[Way] = &[
         hurdle_by: Some(Decline::NothingSettled),
     },
     Way {
-        lines: FREE,
+        lines: Some(FREE),
         work: 1,
         state: State::StageTwo,
         work_by: Decline::WorkNumber,
@@ -194,7 +181,7 @@ const WAYS: &[Way] = &[
         hurdle_by: Some(Decline::NothingSettled),
     },
     Way {
-        lines: FOUR,
+        lines: Some(FOUR),
         work: 60_000,
         state: State::SettledFlow,
         work_by: Decline::NothingInWork,
@@ -202,7 +189,7 @@ const WAYS: &[Way] = &[
         hurdle_by: Some(Decline::NoHurdle),
     },
     Way {
-        lines: SHORT,
+        lines: Some(SHORT),
         work: 60_000,
         state: State::SettledImpossible,
         work_by: Decline::NothingInWork,
@@ -217,11 +204,32 @@ impl Way {
         requires { Sound C.Chooser.has planner.old }
         ensures { Sound C.Chooser.has planner.new }
     {
-        if !self.lines.is_empty() {
-            let _ = planner.start(4, self.lines, 1);
+        if let Some(lines) = self.lines {
+            let _ = planner.start(4, lines, 1);
         }
         let _ = planner.work(self.work);
         planner.state() == self.state
+    }
+
+    // A stage is open, so that a work of 1 would be done.
+    fn is_in_work(&self) -> bool {
+        matches!(self.state, State::StageOne | State::StageTwo)
+    }
+
+    // Declined works leave the planner as it was; where nothing is in work, so does a work of 1.
+    fn bad_works<C: Chooser>(&self, planner: &mut Planner<C>, seen: &Seen) -> bool
+        requires { Sound C.Chooser.has planner.old }
+        ensures { Sound C.Chooser.has planner.new }
+    {
+        let by = Some(self.work_by);
+        let none = planner.work(0).err();
+        let many = planner.work(60_001).err();
+        let one = if self.is_in_work() {
+            by
+        } else {
+            planner.work(1).err()
+        };
+        [none, many, one] == [by; 3] && Seen::of(planner) == *seen
     }
 
     // All declines of the state.
@@ -233,7 +241,7 @@ impl Way {
         let starts = bad_starts(planner, &seen);
         let lists = bad_lists(planner, &seen);
         let trials = bad_trials(planner, &seen);
-        let works = bad_works(planner, &seen, self.work_by);
+        let works = self.bad_works(planner, &seen);
         starts && lists && trials && works
     }
 
@@ -249,7 +257,7 @@ impl Way {
     fn go_on<C: Chooser>(&self, planner: &mut Planner<C>) -> Seen
         requires { Sound C.Chooser.has planner.old }
     {
-        if self.work_by == Decline::NothingInWork {
+        if !self.is_in_work() {
             let _ = planner.start(4, FOUR, 2);
         }
         let _ = settle(planner, 1);

@@ -1,7 +1,7 @@
 //! Calls and answers in plain words.
 use law::{Answer, Call, Given};
 use planner::{Outcome, Side, Tally};
-use plant::{Decline, Line, Trial};
+use plant::{Aim, Decline, Line, Trial};
 use reach::JunctionSet;
 use std::fmt;
 
@@ -27,10 +27,10 @@ struct AimWord(u8);
 
 impl fmt::Display for AimWord {
     fn fmt<W: fmt::Write>(&self, f: &mut fmt::Formatter<W>) -> fmt::Result {
-        f.write_str(match self.0 {
-            1 => "greatest",
-            2 => "least",
-            _ => "no aim",
+        f.write_str(match Aim::try_from(self.0) {
+            Ok(Aim::Greatest) => "greatest",
+            Ok(Aim::Least) => "least",
+            Err(_) => "no aim",
         })
     }
 }
@@ -113,10 +113,9 @@ impl fmt::Display for Words<'_, Given> {
         let given = self.0;
         let junctions = Count(u32::from(given.n), "junction");
         write!(f, "{}, {junctions}:", AimWord(given.aim))?;
-        let mut before = "";
-        for line in given.lines.iter() {
-            write!(f, "{before} {}", Words(line))?;
-            before = ",";
+        for (k, line) in given.lines.iter().enumerate() {
+            let comma = if k == 0 { "" } else { "," };
+            write!(f, "{comma} {}", Words(line))?;
         }
         Ok(())
     }
