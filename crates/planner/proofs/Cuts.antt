@@ -5,6 +5,7 @@ use Rattle.plant.specs.declared.aim.Aim.TheVariants.{Greatest, Least}
 use Rattle.plant.specs.declared.held_plant.HeldPlant.{HeldPlant}
 use Rattle.plant.specs.Held.{Arc, flows_of, lines_of, plant_of}
 use Rattle.plant.specs.Plants.{Junctions, Plant, Reached, Residual, Unreaching}
+use Rattle.plant.proofs.Tested.{held_front}
 use Rattle.reach.proofs.Paths.{Carries, EndsBelow, reaching, residual_reaches, turned_path, turned_reaches}
 use Rattle.reach.specs.Marking.{Reaches}
 use Rattle.std.proofs.lemmas.Bool.{both_ways, cases_Bool}
@@ -48,4 +49,4 @@ pub held_both : (p : HeldPlant) → 1 < (plant_of p).junctions
 held_both p = omega (arith, p.sized.0)
 
 pub held_ends : (p : HeldPlant) → EndsBelow (plant_of p).junctions (plant_of p)
-held_ends p k h = let f = p.fine k h in (f.0, f.1)
+held_ends p k h = let f = (held_front p).fine k h in (f.0, f.1)

@@ -1,7 +1,9 @@
 -- What follows from a planner that is sound.
-use Rattle.std.proofs.Common.{◌≡◌, ℕ, ◌+◌, ◌*◌, ◌<◌, ◌≤◌, Bool, false, length, Option, ap, ◌∙◌, subst, mul-le-mul, arith}
+use Rattle.std.proofs.Common.{◌≡◌, ℕ, ◌+◌, ◌*◌, ◌<◌, ◌≤◌, Bool, false, length, Option, sym, ap, ◌∙◌, subst, mul-le-mul, arith}
+use Rattle.std.proofs.lemmas.List.{get_or-take, length-take}
 use Rattle.plant.specs.declared.aim.Aim.{Aim}
 use Rattle.plant.specs.declared.held_plant.HeldPlant.{HeldPlant}
+use Rattle.plant.specs.declared.line.Line.{Line}
 use Rattle.plant.specs.Held.{flows_of, lines_of, plant_of}
 use Rattle.plant.specs.Plants as plants
 use Rattle.plant.specs.Plants.{Best, Feasible, no_line}
@@ -54,7 +56,9 @@ limits_two h aim st one two w =
 
 -- no line of a plant that is held ends at the header
 pub outward_plant : (h : HeldPlant) → Outward (plant_of h)
-outward_plant h k j e = h.outward k j e
+outward_plant h k j e =
+    let i : k < h.count = omega (arith, length-take h.count h.lines) in
+    h.outward k i (sym (ap (λ (l : Line). l.to) (get_or-take h.count h.lines k no_line i)) ∙ e)
 
 -- small enough to count on
 abbrev Small : Tally → Tally → Type 0

@@ -8,6 +8,7 @@ use Rattle.plant.specs.declared.held_plant.HeldPlant.{HeldPlant}
 use Rattle.plant.specs.Held.{Arc, arc, arcs, flows_of, line_of, lines_of, plant_of}
 use Rattle.plant.specs.Plants as plants
 use Rattle.plant.specs.Plants.{Best, Feasible, Flow, Plant}
+use Rattle.plant.proofs.Tested.{held_front}
 use Rattle.stage.specs.First.{back_line, filled, first_arcs, first_lines, second_arcs, shifted, surplus_lines}
 use Rattle.stage.specs.Model.{State, discharged}
 use Rattle.stage.specs.Runs.{Run, Short, ran, relabels}
@@ -31,14 +32,14 @@ pub sound_plant : (h : HeldPlant) → plants.Sound (plant_of h)
 sound_plant h =
     record {
       both = omega (arith, h.sized.0);
-      each = λ k j. let l = h.fine k j in record { from_in = l.0; to_in = l.1; apart = l.2; ordered = l.3 };
+      each = λ k j. let l = (held_front h).fine k j in record { from_in = l.0; to_in = l.1; apart = l.2; ordered = l.3 };
     }
 
 pub light_one : (h : HeldPlant) → Light (first_arcs (plant_of h))
-light_one h = first_light h.n (plant_of h).lines h.few h.fine h.n h.sized.1
+light_one h = first_light h.n (plant_of h).lines (held_front h).few (held_front h).fine h.n h.sized.1
 
 light_two : (h : HeldPlant) (ls : List Arc) → lines_of ls ≡ (plant_of h).lines → Light ls
-light_two h ls e = omega (arith, ap (plants.summed plants.every plants.high_of) e, highs_fit h.n (plant_of h).lines h.few h.fine)
+light_two h ls e = omega (arith, ap (plants.summed plants.every plants.high_of) e, highs_fit h.n (plant_of h).lines (held_front h).few (held_front h).fine)
 
 -- ---- runs one after the other
 pub ran_then : (n : ℕ) (vs ws : List ℕ) (st : State) → ran n (vs ++ ws) st ≡ ran n ws (ran n vs st)
@@ -129,7 +130,7 @@ one_length h =
 pub one_count : (h : HeldPlant) → length (first_state (plant_of h)).arcs ≤ 1252
 one_count h =
     let k = first_count (plant_of h) (sound_plant h) in
-    omega (arith, one_length h, k.count, k.few, h.few, h.sized.1)
+    omega (arith, one_length h, k.count, k.few, (held_front h).few, h.sized.1)
 
 pub one_roomy : (h : HeldPlant) (st : State) (one : Tally) → Done (h.n + 2) h.n (h.n + 1) (first_state (plant_of h)) st one → (one.discharges < 400000000) × (one.relabels < 400000000)
 one_roomy h st one d = roomy (h.n + 2) (length (first_state (plant_of h)).arcs) one (omega (arith, h.sized.1)) (one_count h) (one_few h st one d)
@@ -181,7 +182,7 @@ module _ (h : HeldPlant) (aim : Aim) (st : State) (one two : Tally) (w : Two aim
       ∙ ap length (two_begins.alike ∙ two_lines_begin h w.found one w.first w.quiet)
 
   pub two_roomy : (two.discharges < 400000000) × (two.relabels < 400000000)
-  two_roomy = roomy h.n (length (second_state aim (plant_of h) w.found.arcs).arcs) two (omega (arith, h.sized.1)) (omega (arith, two_count, h.few)) two_few
+  two_roomy = roomy h.n (length (second_state aim (plant_of h) w.found.arcs).arcs) two (omega (arith, h.sized.1)) (omega (arith, two_count, (held_front h).few)) two_few
 
 -- a settled flow is a best one
 pub settled_best : (h : HeldPlant) (aim : Aim) (st : State) (one two : Tally) → Two aim (plant_of h) st one two → Quiet (start_of aim) (goal_of aim) st.rows → Best aim (plant_of h) (flows_of st.arcs)

@@ -1,13 +1,16 @@
 -- A list that passes the tests, line by line.
-use Rattle.std.proofs.Common.{◌≡◌, ℕ, zero, suc, ◌<◌, ◌≤◌, Bool, true, false, ◌||◌, eqb, ltb, leb, List, [], ◌∷◌, length, get_or, Some, None, Ok, Err, Option, Result, refl, arith, ltb-false, leb-false}
+use Rattle.std.proofs.Common.{◌≡◌, ℕ, zero, suc, ◌<◌, ◌≤◌, Bool, true, false, ◌||◌, eqb, ltb, leb, List, [], ◌∷◌, length, get_or, take, Some, None, Ok, Err, Option, Result, sym, refl, ap, ◌∙◌, subst, arith, length-take, ltb-false, leb-false}
 use borrow.Author.Tests.{eqb-false}
 use Rattle.plant.specs.Fine.{Fine, Outward}
+use Rattle.plant.specs.Held.{plant_of}
 use Rattle.plant.specs.Plants.{no_line}
 use Rattle.plant.specs.Tests.{test_lines, test_list, tested, unless, aim_numbered}
 use Rattle.plant.specs.declared.aim.Aim.{Aim}
 use Rattle.plant.specs.declared.decline.Decline.TheVariants.{JunctionCount, LineCount, AimNumber}
+use Rattle.std.proofs.lemmas.List.{get_or-take}
 use Rattle.plant.specs.declared.decline.Decline.{Decline}
 use Rattle.plant.specs.declared.decline.Decline.TheVariants.{LineEnds, LineDirection, LineLimits}
+use Rattle.plant.specs.declared.held_plant.HeldPlant.{HeldPlant}
 use Rattle.plant.specs.declared.line.Line.{Line}
 use Rattle.plant.specs.Tests.{test, test_line, bad_ends, bad_direction, bad_limits, pass}
 
@@ -86,9 +89,37 @@ passed n a ls x e =
     let s = neither (ltb n 2) (ltb 250 n) t.0 in
     record { few = ltb-false 1000 (length ls) t.1; least = ltb-false n 2 s.0; most = ltb-false 250 n s.1; fine = fine_lines n ls t.2; outward = outward_lines n ls t.2 }
 
+-- and of a copy of it in a longer block
+pub held_fine : (n a : ℕ) (ls xs : List Line) (x : Aim) → Ok x ≡ tested n ls a → take (length ls) xs ≡ ls →
+    (length ls ≤ 1000) × (((2 ≤ n) × (n ≤ 250)) × (((k : ℕ) → k < length ls → Fine n (get_or xs k no_line)) × (((k : ℕ) → k < length ls → Outward (get_or xs k no_line)) × Unit {0})))
+held_fine n a ls xs x e h =
+    let p = passed n a ls x e in
+    (p.few, ((p.least, p.most), ((λ k j. subst (λ (l : Line). Fine n l) (sym (at k j)) (p.fine k j)), ((λ k j. subst (λ (l : Line). Outward l) (sym (at k j)) (p.outward k j)), tt))))
+  where
+    at : (k : ℕ) → k < length ls → get_or xs k no_line ≡ get_or ls k no_line
+    at k j = sym (get_or-take (length ls) xs k no_line j) ∙ ap (λ (ys : List Line). get_or ys k no_line) h
+
 -- an aim, and a list that fails
 pub fails_after_aim : (o : Option Aim) (t : Option Decline) (a : Aim) (d : Decline) → ◌≡◌ {A = Result Aim Decline} (Ok a) (elim o [ Some aim ↦ Ok aim | None ↦ Err AimNumber ]) → Err d ≡ pass t →
     ◌≡◌ {A = Result Aim Decline} (Err d) (elim o [ Some aim ↦ unless t aim | None ↦ Err AimNumber ])
 fails_after_aim (Some b) (Some x) a d e f = cc
 fails_after_aim (Some b) None a d e f = absurd (let z : ◌≡◌ {A = ℕ} 0 1 = cc in omega arith)
 fails_after_aim None t a d e f = absurd (let z : ◌≡◌ {A = ℕ} 0 1 = cc in omega arith)
+
+-- the front of a block of fine lines
+pub record Front (n : ℕ) (ys : List Line) : Type 0 where
+  pub few : length ys ≤ 1000
+  pub fine : (k : ℕ) → k < length ys → Fine n (get_or ys k no_line)
+
+pub front_fine : (n count : ℕ) (xs ys : List Line) → ys ≡ take count xs → count ≤ 1000 → ((k : ℕ) → k < count → Fine n (get_or xs k no_line)) → Front n ys
+front_fine n count xs ys e few fine = subst (λ (zs : List Line). Front n zs) (sym e) (record { few = omega (arith, short); fine = at })
+  where
+    short : length (take count xs) ≤ count
+    short = omega (arith, length-take count xs)
+
+    at : (k : ℕ) → k < length (take count xs) → Fine n (get_or (take count xs) k no_line)
+    at k j = subst (λ (l : Line). Fine n l) (sym (get_or-take count xs k no_line (omega (arith, short)))) (fine k (omega (arith, short)))
+
+-- and the lines that are held are such a front
+pub held_front : (h : HeldPlant) → Front h.n (plant_of h).lines
+held_front h = front_fine h.n h.count h.lines (plant_of h).lines refl h.few h.fine

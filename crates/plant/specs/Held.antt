@@ -1,5 +1,5 @@
 -- What the planner holds: lines with their flows, and a plant that passed the tests.
-use Rattle.std.specs.Prelude.{ℕ, ◌+◌, ◌-◌, Bool, false, cond, List, map, ◌==◌, slice_index_or}
+use Rattle.std.specs.Prelude.{ℕ, ◌+◌, ◌-◌, Bool, false, cond, List, map, take, ◌==◌, slice_index_or}
 use Rattle.plant.specs.declared.held.HeldLine.{HeldLine}
 use Rattle.plant.specs.declared.held_plant.HeldPlant.{HeldPlant}
 use Rattle.plant.specs.declared.line.Line.{Line}
@@ -47,4 +47,4 @@ shift v d a = record { line = a.line; flow = cond (a.line.from == v) (a.flow + d
 
 -- the plant that is held
 abbrev pub plant_of : HeldPlant → Plant
-plant_of p = record { junctions = p.n; lines = p.lines.items }
+plant_of p = record { junctions = p.n; lines = take p.count p.lines }

@@ -1,23 +1,24 @@
 //! A plant that passed the tests, with its aim.
-ghost use Rattle.std.specs.Prelude.{ℕ, ◌<◌, ◌≤◌, length, slice_index_or};
+ghost use Rattle.std.specs.Prelude.{ℕ, ◌<◌, ◌≤◌, slice_index_or};
 ghost use Rattle.plant.specs.Fine.{Fine, Outward};
 ghost use Rattle.plant.specs.Plants.{no_line};
 
 use super::aim::Aim;
 use super::line::Line;
 use super::list::MAX_LINES;
-use arrayvec::ArrayVec;
 
 pub mod calls;
 
 /// A copy of a list that passed the tests, with the number of junctions and the aim.
-#[derive(Drop)]
+// The lines lie in a plain block: a held plant is copied, and a vector of fixed room is not.
+#[derive(Clone, Copy)]
 pub struct HeldPlant {
     n: u8,
     aim: Aim,
-    lines: ArrayVec<Line, MAX_LINES>,
-    ghost few: { length lines.items ≤ 1000 },
+    lines: [Line; MAX_LINES],
+    count: usize,
+    ghost few: { count ≤ 1000 },
     ghost sized: { (2 ≤ n) × (n ≤ 250) },
-    ghost fine: { (k : ℕ) → k < length lines.items → Fine n (slice_index_or lines.items k no_line) },
-    ghost outward: { (k : ℕ) → k < length lines.items → Outward (slice_index_or lines.items k no_line) },
+    ghost fine: { (k : ℕ) → k < count → Fine n (slice_index_or lines k no_line) },
+    ghost outward: { (k : ℕ) → k < count → Outward (slice_index_or lines k no_line) },
 }

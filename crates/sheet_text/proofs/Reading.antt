@@ -10,6 +10,7 @@ use Rattle.plant.specs.declared.decline.Decline.TheVariants.{LineNumber}
 use Rattle.plant.specs.Held.{flow_of, flows_of, line_of, lines_of, marked}
 use Rattle.plant.specs.Plants.{Junctions, WorstHurdle, bound_over, carried, leaves, list_total, shortfall, shortfall_over, total}
 use Rattle.plant.specs.Tests.{test, unless}
+use Rattle.plant.proofs.Tested.{held_front}
 use Rattle.planner.specs.declared.answer.Side.{Side}
 use Rattle.planner.specs.declared.answer.Side.TheVariants.{Near, Far}
 use Rattle.planner.specs.declared.machine.Planner.{Planner}
@@ -44,13 +45,13 @@ module _ (p : Planner Fifo) (s : Sound holds p) (e : p.state ≡ SettledFlow) wh
   out = carried (leaves 0) (plant_in p).lines (flows_of (arcs_in p))
 
   pub flow_small : (k : ℕ) → k < length (plant_in p).lines → get_or (flows_of (arcs_in p)) k 0 ≤ 1000000
-  flow_small k j = omega (arith, (flow_best holds p s e).feasible.within.below k j, (p.plant.fine k j).4)
+  flow_small k j = omega (arith, (flow_best holds p s e).feasible.within.below k j, ((held_front p.plant).fine k j).4)
 
   pub total_shown : total (plant_in p) (flows_of (arcs_in p)) ≡ pos out
   total_shown = total_out (plant_in p) (flows_of (arcs_in p)) (outward_plant p.plant)
 
   pub out_small : out ≤ 1000000000
-  out_small = omega (arith, carried_small (leaves 0) (plant_in p).lines (flows_of (arcs_in p)) flow_small, p.plant.few)
+  out_small = omega (arith, carried_small (leaves 0) (plant_in p).lines (flows_of (arcs_in p)) flow_small, (held_front p.plant).few)
 
   pub total_told : total_answer (view p) ≡ Ok (pos out)
   total_told =
@@ -124,7 +125,7 @@ hurdle_marked p before after a marks l read m =
     let is : a.1 ≡ shortfall (plant_in p) S = ap (snd_ok 0) r.2.0 in (
       subst (WorstHurdle (plant_in p)) q r.1.worst,
       is ∙ ap (shortfall (plant_in p)) q,
-      omega (arith, is, p.plant.few, shortfall_small (plant_in p).lines S (λ k j. omega (arith, (p.plant.fine k j).3, (p.plant.fine k j).4))),
+      omega (arith, is, (held_front p.plant).few, shortfall_small (plant_in p).lines S (λ k j. omega (arith, ((held_front p.plant).fine k j).3, ((held_front p.plant).fine k j).4))),
     )
   where
     snd_ok : ℕ → Result (ℕ × ℕ) Decline → ℕ

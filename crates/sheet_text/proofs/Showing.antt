@@ -13,6 +13,7 @@ use Rattle.plant.specs.Numbers.{number_of}
 use Rattle.plant.specs.Plants as plants
 use Rattle.plant.specs.Plants.{Best, Feasible, Flow, Junctions, Plant, WorstHurdle, shortfall}
 use Rattle.plant.specs.Tests.{aim_numbered, test_list, tested}
+use Rattle.plant.proofs.Tested.{held_front}
 use Rattle.planner.specs.Calls.{Settles, Started}
 use Rattle.planner.specs.Cuts.{Extreme}
 use Rattle.planner.specs.declared.answer.Outcome.{Outcome}
@@ -50,7 +51,7 @@ sheet_put c text before after r s short p = record { text = text; sheet = s; sho
 pub small_flows : (p : Planner Fifo) (f : Flow) → Sound holds p → p.state ≡ SettledFlow → f ≡ flows_of (arcs_in p) → SmallFlows f
 small_flows p f s e is =
     let n = flow_length p s e in
-    subst (λ (g : Flow). SmallFlows g) (sym is) (omega (arith, n, p.plant.few), λ i j. flow_small p s e i (omega (arith, n)))
+    subst (λ (g : Flow). SmallFlows g) (sym is) (omega (arith, n, (held_front p.plant).few), λ i j. flow_small p s e i (omega (arith, n)))
 
 pub few_marks : (n : ℕ) (marks : List Bool) → n ≤ 250 → length (take n marks) ≤ 250
 few_marks n marks h = omega (arith, length-take n marks)

@@ -4,6 +4,7 @@ use Rattle.chooser.specs.declared.fifo.Fifo.{Fifo}
 use Rattle.chooser.specs.FifoCalls.{holds}
 use Rattle.std.proofs.lemmas.Bool.{both_ways}
 use Rattle.plant.specs.declared.decline.Decline.{Decline}
+use Rattle.plant.proofs.Tested.{held_front}
 use Rattle.planner.specs.Calls.{WorkFails, nothing, number}
 use Rattle.planner.specs.declared.answer.Tally.{Tally}
 use Rattle.planner.specs.declared.machine.Planner.{Planner}
@@ -22,7 +23,7 @@ pub made_few : (p : Planner Fifo) → Sound holds p → made p < 800000000
 made_few p s =
     let w = limits holds p s in
     let a = roomy (p.plant.n + 2) _ p.one (omega (arith, p.plant.sized.1)) (omega (arith, one_count p.plant, one_length p.plant)) w.first in
-    let b = roomy p.plant.n _ p.two (omega (arith, p.plant.sized.1)) (omega (arith, p.plant.few)) w.second in
+    let b = roomy p.plant.n _ p.two (omega (arith, p.plant.sized.1)) (omega (arith, (held_front p.plant).few)) w.second in
     omega (arith, a.0, b.0)
 
 -- something is active only while a stage is open

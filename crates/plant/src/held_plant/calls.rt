@@ -1,5 +1,5 @@
 //! How a plant is held, and what is read off it.
-ghost use Rattle.std.specs.Prelude.{◌≡◌, ℕ, ◌<◌, ◌≤◌, [], length, Ok, Err, MatchResult, slice_index_or};
+ghost use Rattle.std.specs.Prelude.{◌≡◌, ℕ, ◌<◌, ◌≤◌, [], length, take, Ok, Err, MatchResult, slice_index_or};
 ghost use Rattle.plant.specs.declared.aim.Aim.TheVariants.{Greatest};
 ghost use Rattle.plant.specs.Fine.{Fine};
 ghost use Rattle.plant.specs.Held.{plant_of};
@@ -9,9 +9,18 @@ ghost use Rattle.plant.specs.Tests.{tested};
 use super::super::aim::Aim;
 use super::super::decline::Decline;
 use super::super::line::Line;
-use super::super::list::test_plant;
+use super::super::list::{MAX_LINES, test_plant};
 use super::HeldPlant;
-use arrayvec::ArrayVec;
+
+// The list in a fixed block, blank lines after it.
+fn copied(lines: &[Line]) -> [Line; MAX_LINES]
+    requires { length lines.now ≤ 1000 }
+    ensures { take (length lines.now) result ≡ lines.now }
+{
+    let mut held = [Line::default(); MAX_LINES];
+    held[0..lines.len()].copy_from_slice(lines);
+    held
+}
 
 impl HeldPlant {
     /// Copies a list, or declines it by the first test that fails.
@@ -19,12 +28,12 @@ impl HeldPlant {
         ensures { MatchResult result (λ p. (tested n lines.now aim ≡ Ok p.aim) × (plant_of p ≡ record { junctions = n; lines = lines.now })) (λ d. tested n lines.now aim ≡ Err d) }
     {
         let aim = test_plant(n, lines, aim)?;
-        let mut held = ArrayVec::new();
-        held.try_extend_from_slice(lines).unwrap();
+        let count = lines.len();
         Ok(HeldPlant {
             n,
             aim,
-            lines: held,
+            lines: copied(lines),
+            count,
         })
     }
 
@@ -36,7 +45,8 @@ impl HeldPlant {
         HeldPlant {
             n: 2,
             aim: Aim::Greatest,
-            lines: ArrayVec::new(),
+            lines: [Line::default(); MAX_LINES],
+            count: 0,
         }
     }
 
@@ -61,6 +71,6 @@ impl HeldPlant {
         ensures few { length result.now ≤ 1000 }
         ensures fine { (k : ℕ) → k < length result.now → Fine (plant_of self.now).junctions (slice_index_or result.now k no_line) }
     {
-        self.lines.as_slice()
+        &self.lines[0..self.count]
     }
 }

@@ -2,6 +2,7 @@ use Rattle.std.proofs.Common.{◌≡◌, length, sym, ap, ◌∙◌, arith}
 use Rattle.std.proofs.lemmas.List.{length-map}
 use Rattle.plant.specs.Held.{arc, plant_of}
 use Rattle.plant.specs.Plants.{every, high_of, summed}
+use Rattle.plant.proofs.Tested.{held_front}
 use Rattle.stage.specs.First.{first_arcs}
 use Rattle.preflow.proofs.Opens.{first_light, first_opened, highs_fit, shifted_count}
 use Rattle.preflow.proofs.Standing.{light_like}
@@ -24,6 +25,6 @@ returns c =
     record {
       lines = e;
       number = sym (length-map c.push_surpluses.new.held.items arc) ∙ ap length e;
-      few = omega (arith, c.push_surpluses.ensures.few, c.push.ensures.len, count, h.few, h.sized.1);
-      light = light_like _ (first_arcs p) e (first_light p.junctions p.lines h.few h.fine p.junctions h.sized.1);
+      few = omega (arith, c.push_surpluses.ensures.few, c.push.ensures.len, count, (held_front h).few, h.sized.1);
+      light = light_like _ (first_arcs p) e (first_light p.junctions p.lines (held_front h).few (held_front h).fine p.junctions h.sized.1);
     }

@@ -2,6 +2,7 @@ use Rattle.std.proofs.Common.{◌≡◌, List, length, take, ap, ◌∙◌, arit
 use Rattle.arrayvec.proofs.ArrayVecLemmas.{items-with_items}
 use Rattle.plant.specs.declared.line.Line.{Line}
 use Rattle.plant.specs.Held.{arcs, lines_of, plant_of}
+use Rattle.plant.proofs.Tested.{held_front}
 use Rattle.stage.specs.First.{second_arcs}
 use Rattle.preflow.proofs.Opens.{second_cut, second_light, settle_count}
 use Rattle.preflow.proofs.Standing.{light_like}
@@ -25,6 +26,6 @@ returns c =
     record {
       lines = e;
       number = ap length w ∙ n;
-      few = omega (arith, ap length w, n, h.few);
-      light = light_like _ (second_arcs ls (arcs hs)) e (second_light h.n ls h.few h.fine (arcs hs));
+      few = omega (arith, ap length w, n, (held_front h).few);
+      light = light_like _ (second_arcs ls (arcs hs)) e (second_light h.n ls (held_front h).few (held_front h).fine (arcs hs));
     }

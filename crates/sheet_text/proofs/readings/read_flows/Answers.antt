@@ -1,6 +1,7 @@
 use Rattle.std.proofs.Common.{◌<◌, [], ◌∷◌, ◌++◌, length, get_or, sym, ap, ◌∙◌, arith, length-take-le}
 use Rattle.std.proofs.lemmas.List.{take_all, take_more}
 use Rattle.plant.specs.Held.{flows_of}
+use Rattle.plant.proofs.Tested.{held_front}
 use Rattle.planner.specs.Standing.{arcs_in, plant_in}
 use Rattle.sheet_text.proofs.Reading.{flow_length, flow_told, never_declined, ok_same}
 use Rattle.sheet_text.proofs.Showing.{small_flows}
@@ -11,7 +12,7 @@ push-requires c =
     let p = c.args.planner.now in
     let n = flow_length p c.requires.0 c.requires.1 in
     let l = length-take-le c.loop-line.line (flows_of (arcs_in p)) (omega (arith, c.loop-line-test.true, n, c.requires.2)) in
-    (omega arith, omega (arith, c.loop-line-test.true, ap length c.loop-line.invariant, l, p.plant.few, c.requires.2))
+    (omega arith, omega (arith, c.loop-line-test.true, ap length c.loop-line.invariant, l, (held_front p.plant).few, c.requires.2))
 
 pub returns-in_err-flow-clause-flows : goal.returns-in_err-flow-clause-flows
 returns-in_err-flow-clause-flows c =

@@ -1,9 +1,7 @@
-use Rattle.std.proofs.Common.{◌≡◌, sym, subst, rules}
-use Rattle.plant.proofs.Tested.{Passed, passed}
+use Rattle.plant.proofs.Tested.{held_fine}
 use Rattle.plant.proofs.held_plant.HeldPlant.new.Goals as goal
 
 pub invariant_of-result : goal.invariant_of-result
 invariant_of-result c =
-    let e : c.try_extend_from_slice.new.self.items ≡ c.args.lines.now = search rules in
-    let p = subst (λ ls. Passed c.args.n ls) (sym e) (passed c.args.n c.args.aim c.args.lines.now _ c.in_ok-aim.ensures) in
-    record { few = p.few; sized = (p.least, p.most); fine = p.fine; outward = p.outward }
+    let h = held_fine c.args.n c.args.aim c.args.lines.now c.copied.result _ c.in_ok-aim.ensures c.copied.ensures in
+    record { few = h.0; sized = h.1.0; fine = h.1.1.0; outward = h.1.1.1.0 }
