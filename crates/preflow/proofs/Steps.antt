@@ -1,7 +1,6 @@
 -- A whole step, and a whole beginning.
 use Rattle.std.proofs.Common.{◌≡◌, ℕ, ◌<◌, ◌≤◌, Bool, ◌≢◌, List, Some, Option, refl}
 use Rattle.plant.specs.Held.{Arc}
-use Rattle.stage.specs.declared.Row.{Row}
 use Rattle.stage.specs.Model.{State, begin_puts, begun, discharge_puts, discharged_arcs, discharged_rows, unspent}
 use Rattle.stage.specs.Runs.{PutAll, SetLike, Tied}
 use Rattle.stage.specs.Sets.{Empty}
@@ -20,15 +19,11 @@ module _ {C : Type 0} (has : C → ℕ → Bool) (clears : C → C → Type 0) (
     pub stands : Stands n s t st'
     pub tied : Tied has s t st'.rows c'
 
-  -- v is taken and discharged, over the lines and rows that st shows
-  pub step_done : (n s t v : ℕ) (st st' : State) (c c₁ c' : C) (b : Bool) (ls : List Arc) (rs : List Row) → n ≤ 252 → Stands n s t st → Tied has s t st.rows c →
-      Takes has takes c (Some v) c₁ → ls ≡ st.arcs → rs ≡ st.rows → st'.arcs ≡ discharged_arcs v ls rs → st'.rows ≡ discharged_rows n v ls rs → b ≡ unspent v ls rs →
-      PutAll (Puts has puts) c₁ (discharge_puts n s t v ls rs) c' → Step n s t st c b st' c'
-  step_done n s t v st st' c c₁ c' b ls rs cap h tied tk ea es el' er' eb' p' =
-      let el : st'.arcs ≡ discharged_arcs v st.arcs st.rows = rw (ea, es) at el' in
-      let er : st'.rows ≡ discharged_rows n v st.arcs st.rows = rw (ea, es) at er' in
-      let eb : b ≡ unspent v st.arcs st.rows = rw (ea, es) at eb' in
-      let p : PutAll (Puts has puts) c₁ (discharge_puts n s t v st.arcs st.rows) c' = rw (ea, es) at p' in
+  -- v is taken and discharged
+  pub step_done : (n s t v : ℕ) (st st' : State) (c c₁ c' : C) (b : Bool) → n ≤ 252 → Stands n s t st → Tied has s t st.rows c → Takes has takes c (Some v) c₁ →
+      st'.arcs ≡ discharged_arcs v st.arcs st.rows → st'.rows ≡ discharged_rows n v st.arcs st.rows → b ≡ unspent v st.arcs st.rows →
+      PutAll (Puts has puts) c₁ (discharge_puts n s t v st.arcs st.rows) c' → Step n s t st c b st' c'
+  step_done n s t v st st' c c₁ c' b cap h tied tk el er eb p =
       let x = discharge_tied has (Puts has puts) (Takes has takes) like n s t h.flow st.arcs st.rows v c c₁ c' cap h.holds tied tk p in
       record {
         step = (v, c₁, tk, x.0, eb, rw (el, er) refl, p);
@@ -42,14 +37,11 @@ module _ {C : Type 0} (has : C → ℕ → Bool) (clears : C → C → Type 0) (
     pub stands : Stands n s t st
     pub tied : Tied has s t st.rows c'
 
-  pub begin_done : (n s t : ℕ) (ls ls₀ : List Arc) (c c₁ c' : C) (st : State) (rs : List Row) → n ≤ 252 → s < n → t < n → s ≢ t → Balanced n s t ls → Light ls →
-      ls₀ ≡ ls → st.arcs ≡ (begun n s ls₀).arcs → st.rows ≡ (begun n s ls₀).rows → clears c c₁ → Empty (has c₁) → rs ≡ st.rows → PutAll (Puts has puts) c₁ (begin_puts n s t rs) c' →
+  pub begin_done : (n s t : ℕ) (ls : List Arc) (c c₁ c' : C) (st : State) → n ≤ 252 → s < n → t < n → s ≢ t → Balanced n s t ls → Light ls →
+      st.arcs ≡ (begun n s ls).arcs → st.rows ≡ (begun n s ls).rows → clears c c₁ → Empty (has c₁) → PutAll (Puts has puts) c₁ (begin_puts n s t st.rows) c' →
       Begun n s t ls c st c'
-  begin_done n s t ls ls₀ c c₁ c' st rs cap js jt differ bal light ea el' er' cl none es p' =
+  begin_done n s t ls c c₁ c' st cap js jt differ bal light el er cl none p =
       let k = begun_stands n s t ls js jt differ bal light in
-      let el : st.arcs ≡ (begun n s ls).arcs = rw ea at el' in
-      let er : st.rows ≡ (begun n s ls).rows = rw ea at er' in
-      let p : PutAll (Puts has puts) c₁ (begin_puts n s t st.rows) c' = rw es at p' in
       record {
         state = rw (el, er) refl;
         puts_are = (c₁, cl, none, p);

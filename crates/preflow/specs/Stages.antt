@@ -1,5 +1,5 @@
 -- The state of a stage as the code holds it, and what a step does.
-use Rattle.std.specs.Prelude.{◌≡◌, ℕ, ◌^◌, ◌<◌, ◌≤◌, Bool, true, false, cond, List, Some, None, Option}
+use Rattle.std.specs.Prelude.{◌≡◌, ℕ, ◌^◌, ◌<◌, ◌≤◌, Bool, true, false, cond, List, take, Some, None, Option}
 use Rattle.plant.specs.declared.held.HeldLine.{HeldLine}
 use Rattle.plant.specs.Held.{Arc, arcs, lines_of, other}
 use Rattle.plant.specs.Plants.{every, high_of, summed}
@@ -9,9 +9,12 @@ use Rattle.stage.specs.Runs.{PutAll}
 use Rattle.stage.specs.States.{Bounded, Holds}
 use Rattle.preflow.specs.Choosers.{Puts, Takes}
 
--- held lines and rows as a state
+-- all held lines, with all rows, and with the first n of them
 abbrev pub state_of : List HeldLine → List Row → State
 state_of hs rs = record { arcs = arcs hs; rows = rs }
+
+abbrev pub state : ℕ → List HeldLine → List Row → State
+state n hs rs = state_of hs (take n rs)
 
 -- all highs together are no more than 2 ^ 40
 abbrev pub Light : List Arc → Type 0

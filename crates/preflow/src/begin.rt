@@ -1,15 +1,15 @@
 //! How a stage begins.
 ghost use Rattle.std.specs.Prelude.{◌≡◌, length, replicate};
 ghost use Rattle.plant.specs.Held.{arcs};
-ghost use Rattle.preflow.specs.Choosers.{Puts};
-ghost use Rattle.preflow.specs.Stages.{Light};
+ghost use Rattle.preflow.specs.Choosers.{Filled, Puts};
+ghost use Rattle.preflow.specs.Stages.{Light, Stands, state_of};
 ghost use Rattle.stage.specs.Model.{begin_puts, begun, begun_arcs, begun_rows, first_rows, row0};
-ghost use Rattle.stage.specs.Runs.{PutAll};
+ghost use Rattle.stage.specs.Runs.{PutAll, Tied};
 ghost use Rattle.stage.specs.States.{Balanced, SoundArc};
 ghost use Rattle.std.specs.List.{AllByRecursion};
 
 use super::push::push;
-use super::rows::{Rows, lay_blank, relabel, send};
+use super::rows::{relabel, send};
 use super::stages::Stage;
 use chooser::Chooser;
 use plant::HeldLine;
@@ -42,8 +42,8 @@ fn push_all(stage: Stage, lines: &mut [HeldLine], rows: &mut [Row])
     }
 }
 
-/// Puts the active junctions in rising order.
-pub fn put_active<C: Chooser>(stage: Stage, rows: &[Row], chooser: &mut C)
+// Puts the active junctions in rising order.
+fn put_active<C: Chooser>(stage: Stage, rows: &[Row], chooser: &mut C)
     requires { length rows.now ≡ stage.junctions }
     ensures { PutAll (Puts C.Chooser.has C.Chooser.puts) chooser.old (begin_puts stage.junctions stage.start stage.goal rows.now) chooser.new }
 {
@@ -55,15 +55,29 @@ pub fn put_active<C: Chooser>(stage: Stage, rows: &[Row], chooser: &mut C)
     }
 }
 
-/// The first rows, and then the pushes out of the start.
-pub fn begin_rows(stage: Stage, lines: &mut [HeldLine], rows: &mut Rows)
+// The first rows, and then the pushes out of the start.
+fn begin_rows(stage: Stage, lines: &mut [HeldLine], rows: &mut [Row])
     requires balanced { Balanced stage.junctions stage.start stage.goal (arcs lines.old) }
     requires light { Light (arcs lines.old) }
+    requires blank { rows.old ≡ replicate stage.junctions row0 }
     ensures lines { arcs lines.new ≡ (begun stage.junctions stage.start (arcs lines.old)).arcs }
-    ensures rows { rows.new.items ≡ (begun stage.junctions stage.start (arcs lines.old)).rows }
+    ensures rows { rows.new ≡ (begun stage.junctions stage.start (arcs lines.old)).rows }
 {
-    lay_blank(rows, stage.junctions);
-    let rows = rows.as_mut_slice();
     first_rows(stage, lines, rows);
     push_all(stage, lines, rows);
+}
+
+/// Begins a stage over the flow that the lines carry; the rows are blank before, one for each junction.
+pub fn begin<C: Chooser>(stage: Stage, lines: &mut [HeldLine], rows: &mut [Row], chooser: &mut C)
+    requires balanced { Balanced stage.junctions stage.start stage.goal (arcs lines.old) }
+    requires light { Light (arcs lines.old) }
+    requires blank { rows.old ≡ replicate stage.junctions row0 }
+    ensures state { state_of lines.new rows.new ≡ begun stage.junctions stage.start (arcs lines.old) }
+    ensures puts { Filled C.Chooser.has C.Chooser.clears C.Chooser.puts chooser.old (begin_puts stage.junctions stage.start stage.goal rows.new) chooser.new }
+    ensures stands { Stands stage.junctions stage.start stage.goal (state_of lines.new rows.new) }
+    ensures tied { Tied C.Chooser.has stage.start stage.goal rows.new chooser.new }
+{
+    begin_rows(stage, lines, rows);
+    chooser.clear();
+    put_active(stage, rows, chooser);
 }

@@ -2,9 +2,9 @@
 ghost use Rattle.std.specs.Prelude.{◌≡◌, true, length};
 ghost use Rattle.plant.specs.Held.{arc, arcs};
 ghost use Rattle.preflow.specs.Choosers.{Puts};
-ghost use Rattle.preflow.specs.Stages.{Stands, state_of};
+ghost use Rattle.preflow.specs.Stages.{Stands, Stepped, state_of};
 ghost use Rattle.stage.specs.Model.{active, discharge_puts, discharged_arcs, discharged_rows, lower, lowest, scan_arcs, scan_puts, scan_rows, unspent};
-ghost use Rattle.stage.specs.Runs.{PutAll};
+ghost use Rattle.stage.specs.Runs.{PutAll, Tied};
 ghost use Rattle.stage.specs.States.{SoundArc};
 ghost use Rattle.std.specs.List.{AllByRecursion};
 
@@ -79,4 +79,21 @@ pub fn discharge_junction<C: Chooser>(
     relabel(rows, v, label);
     chooser.put(v, label);
     true
+}
+
+/// Takes a junction and discharges it; answers whether it was relabelled, or None where none is active.
+pub fn step<C: Chooser>(
+    stage: Stage,
+    lines: &mut [HeldLine],
+    rows: &mut [Row],
+    chooser: &mut C,
+) -> Option<bool>
+    requires stands { Stands stage.junctions stage.start stage.goal (state_of lines.old rows.old) }
+    requires tied { Tied C.Chooser.has stage.start stage.goal rows.old chooser.old }
+    ensures step { Stepped C.Chooser.has C.Chooser.puts C.Chooser.takes stage.junctions stage.start stage.goal (state_of lines.old rows.old) chooser.old result (state_of lines.new rows.new) chooser.new }
+    ensures stands { Stands stage.junctions stage.start stage.goal (state_of lines.new rows.new) }
+    ensures tied { Tied C.Chooser.has stage.start stage.goal rows.new chooser.new }
+{
+    let v = chooser.take()?;
+    Some(discharge_junction(stage, lines, rows, chooser, v))
 }

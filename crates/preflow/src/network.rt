@@ -10,11 +10,9 @@ ghost use Rattle.stage.specs.Model.{begin_puts, begun};
 ghost use Rattle.stage.specs.Runs.{Tied};
 ghost use Rattle.stage.specs.States.{Balanced};
 
-use super::begin::{begin_rows, put_active};
-use super::discharge::discharge_junction;
-use super::opening;
-use super::rows::Rows;
+use super::rows::{StageRows, lay_blank};
 use super::stages::Stage;
+use super::{begin, discharge, opening, running};
 use arrayvec::ArrayVec;
 use chooser::Chooser;
 use plant::{HeldLine, HeldPlant};
@@ -29,7 +27,7 @@ pub type Lines = ArrayVec<HeldLine, HELD_LINES>;
 #[derive(Drop)]
 pub struct Network<C> {
     lines: Lines,
-    rows: Rows,
+    rows: StageRows,
     chooser: C,
 }
 
@@ -38,6 +36,7 @@ impl<C: Chooser> Network<C> {
     pub fn new(chooser: C) -> Network<C>
         ensures chooser { result.chooser ≡ chooser }
         ensures lines { result.lines.items ≡ [] }
+        ensures rows { result.rows.items ≡ [] }
     {
         Network::with_lines(ArrayVec::new(), chooser)
     }
@@ -46,6 +45,7 @@ impl<C: Chooser> Network<C> {
     pub fn with_lines(lines: Lines, chooser: C) -> Network<C>
         ensures chooser { result.chooser ≡ chooser }
         ensures lines { result.lines ≡ lines }
+        ensures rows { result.rows.items ≡ [] }
     {
         Network {
             lines,
@@ -68,6 +68,7 @@ impl<C: Chooser> Network<C> {
         ensures number { length self.new.lines.items ≡ length (first_arcs (plant_of plant.now)) }
         ensures few { length self.new.lines.items ≤ 1251 }
         ensures light { Light (arcs self.new.lines.items) }
+        ensures rows { self.new.rows ≡ self.old.rows }
         ensures chooser { self.new.chooser ≡ self.old.chooser }
     {
         opening::open_first(plant, &mut self.lines);
@@ -80,6 +81,7 @@ impl<C: Chooser> Network<C> {
         ensures number { length self.new.lines.items ≡ length (plant_of plant.now).lines }
         ensures few { length self.new.lines.items ≤ 1000 }
         ensures light { Light (arcs self.new.lines.items) }
+        ensures rows { self.new.rows ≡ self.old.rows }
         ensures chooser { self.new.chooser ≡ self.old.chooser }
     {
         opening::open_second(plant, &mut self.lines);
@@ -94,9 +96,13 @@ impl<C: Chooser> Network<C> {
         ensures stands { Stands stage.junctions stage.start stage.goal (state_in self.new) }
         ensures tied { Tied C.Chooser.has stage.start stage.goal self.new.rows.items self.new.chooser }
     {
-        begin_rows(stage, self.lines.as_mut_slice(), &mut self.rows);
-        self.chooser.clear();
-        put_active(stage, self.rows.as_slice(), &mut self.chooser);
+        lay_blank(&mut self.rows, stage.junctions);
+        begin::begin(
+            stage,
+            self.lines.as_mut_slice(),
+            self.rows.as_mut_slice(),
+            &mut self.chooser,
+        );
     }
 
     /// Takes a junction and discharges it; answers whether it was relabelled, or None where none is active.
@@ -107,15 +113,12 @@ impl<C: Chooser> Network<C> {
         ensures stands { Stands stage.junctions stage.start stage.goal (state_in self.new) }
         ensures tied { Tied C.Chooser.has stage.start stage.goal self.new.rows.items self.new.chooser }
     {
-        let v = self.chooser.take()?;
-        let relabelled = discharge_junction(
+        discharge::step(
             stage,
             self.lines.as_mut_slice(),
             self.rows.as_mut_slice(),
             &mut self.chooser,
-            v,
-        );
-        Some(relabelled)
+        )
     }
 
     /// Makes discharges until there are `most`, or nothing is active; answers how many, and how many of them relabelled.
@@ -127,14 +130,13 @@ impl<C: Chooser> Network<C> {
         ensures stands { Stands stage.junctions stage.start stage.goal (state_in self.new) }
         ensures tied { Tied C.Chooser.has stage.start stage.goal self.new.rows.items self.new.chooser }
     {
-        let mut relabels = 0;
-        for made in 0..most {
-            let Some(relabelled) = self.step(stage) else {
-                return (made, relabels);
-            };
-            relabels += u32::from(relabelled);
-        }
-        (most, relabels)
+        running::run(
+            stage,
+            self.lines.as_mut_slice(),
+            self.rows.as_mut_slice(),
+            &mut self.chooser,
+            most,
+        )
     }
 
     /// Whether any junction of the stage is active.
@@ -148,6 +150,6 @@ impl<C: Chooser> Network<C> {
     pub fn is_filled(&self, start: u8) -> bool
         ensures { result ≡ filled start (arcs self.now.lines.items) }
     {
-        self.lines.iter().all(|held| held.line.from != start || held.flow >= held.line.high)
+        opening::is_filled(start, self.lines.as_slice())
     }
 }

@@ -6,7 +6,7 @@ ghost use Rattle.plant.specs.Held.{arc, arcs, lines_of, plant_of};
 ghost use Rattle.plant.specs.Plants.{no_line};
 ghost use Rattle.preflow.specs.Networks.{arc_if, line_for};
 ghost use Rattle.preflow.specs.Stages.{Light};
-ghost use Rattle.stage.specs.First.{added_line, empty_arc, first_arcs, second_arcs, shifted, surplus_lines};
+ghost use Rattle.stage.specs.First.{added_line, empty_arc, filled, first_arcs, second_arcs, shifted, surplus_lines};
 
 use super::network::Lines;
 use plant::{HeldLine, HeldPlant, Line, sum_of_highs, surplus_at};
@@ -104,8 +104,8 @@ fn settled(line: Line, found: u32) -> HeldLine
     }
 }
 
-// The plant's lines in stage two.
-fn settle_lines(plant: &HeldPlant, held: &mut [HeldLine])
+/// The plant's lines in stage two.
+pub fn settle_lines(plant: &HeldPlant, held: &mut [HeldLine])
     requires { lines_of (arcs held.old) ≡ map shifted (plant_of plant.now).lines }
     ensures { arcs held.new ≡ second_arcs (plant_of plant.now).lines (arcs held.old) }
 {
@@ -124,4 +124,11 @@ pub fn open_second(plant: &HeldPlant, held: &mut Lines)
 {
     held.truncate(plant.lines().len());
     settle_lines(plant, held.as_mut_slice());
+}
+
+/// Whether every line that leaves `start` is full.
+pub fn is_filled(start: u8, lines: &[HeldLine]) -> bool
+    ensures { result ≡ filled start (arcs lines.now) }
+{
+    lines.iter().all(|held| held.line.from != start || held.flow >= held.line.high)
 }

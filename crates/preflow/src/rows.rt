@@ -9,8 +9,11 @@ use stage::Row;
 /// As many rows as a stage can have junctions: 250 of the plant, and the two that stage one adds.
 pub const ROWS: usize = 252;
 
-/// One row for each junction of a stage.
-pub type Rows = ArrayVec<Row, ROWS>;
+/// One row for each junction.
+pub type Rows = [Row; ROWS];
+
+/// One row for each junction of a stage, and no more.
+pub type StageRows = ArrayVec<Row, ROWS>;
 
 // The excess of a row grows by `amount`.
 fn grow(row: &mut Row, amount: i64)
@@ -50,7 +53,7 @@ pub fn send(rows: &mut [Row], v: u8, w: u8, amount: u32)
 }
 
 /// As many blank rows as there are junctions.
-pub fn lay_blank(rows: &mut Rows, junctions: u8)
+pub fn lay_blank(rows: &mut StageRows, junctions: u8)
     requires { junctions ≤ 252 }
     ensures { rows.new.items ≡ replicate junctions row0 }
 {

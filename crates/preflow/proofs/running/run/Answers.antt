@@ -1,6 +1,6 @@
 use Rattle.std.proofs.Common.{arith}
 use Rattle.preflow.proofs.Rans.{byte_le, ran_more}
-use Rattle.preflow.proofs.network.Network.run.Goals as goal
+use Rattle.preflow.proofs.running.run.Goals as goal
 
 pub loop-made-preserved : goal.loop-made-preserved
 loop-made-preserved g c =
