@@ -67,6 +67,10 @@ listed_take xs ys m v on small l u =
       | inr n ↦ omega (arith, times_append u xs ys, times_append u xs (v ∷ ys), miss u v n, l u, ap (λ (b : Bool). cond b 1 zero) (get_or-set_other m v u false false n))
     ]
 
+-- the first of a list is a member
+pub listed_first : (xs ys : List ℕ) (v : ℕ) (m : List Bool) → xs ≡ v ∷ ys → Listed xs m → get_or m v false ≡ true
+listed_first xs ys v m e l = listed_at (v ∷ ys) m (subst (λ (zs : List ℕ). Listed zs m) e l) 0 (omega arith)
+
 pub listed_none : (n : ℕ) → Listed [] (replicate n false)
 listed_none n v = sym (flag_off (replicate n false) v (unset n v))
 

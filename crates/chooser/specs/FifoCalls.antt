@@ -1,15 +1,15 @@
 -- What the calls of the chooser by order of arrival do.
-use Rattle.std.specs.Prelude.{◌≡◌, ℕ, ◌<◌, ◌≤◌, Bool, true, false, List, [], ◌∷◌, ◌++◌, Some, None, Option}
+use Rattle.std.specs.Prelude.{◌≡◌, ℕ, ◌<◌, ◌≤◌, Bool, true, false, List, [], ◌∷◌, ◌++◌, Some, None, Option, slice_index_or}
 use Rattle.chooser.specs.declared.fifo.Fifo.{Fifo}
-use Rattle.chooser.specs.Arrivals as arrived
+use Rattle.chooser.specs.Lists.{run}
 
 -- whether `v` is a member
 abbrev pub holds : Fifo → ℕ → Bool
-holds c v = arrived.holds c.arrived v
+holds c v = slice_index_or c.member v false
 
 -- the members in order of arrival
 abbrev pub arrivals : Fifo → List ℕ
-arrivals c = c.arrived.order.items
+arrivals c = run c.ring c.head c.count
 
 -- nothing is left
 abbrev pub Cleared : Fifo → Type 0

@@ -1,5 +1,5 @@
 -- Lists of junction numbers, and of flags.
-use Rattle.std.specs.Prelude.{ℕ, ◌+◌, Bool, true, false, cond, List, [], ◌∷◌, ◌==◌, slice_index_or}
+use Rattle.std.specs.Prelude.{ℕ, zero, suc, ◌+◌, ◌%◌, Bool, true, false, cond, List, [], ◌∷◌, ◌==◌, slice_index, slice_index_or}
 
 -- how often `v` stands in a list
 abbrev pub times : ℕ → List ℕ → ℕ
@@ -15,3 +15,8 @@ abbrev pub ones : List Bool → ℕ
 ones [] = 0
 ones (true ∷ bs) = 1 + ones bs
 ones (false ∷ bs) = ones bs
+
+-- the `n` numbers of a ring of 252 places from the place `h` on
+abbrev pub run : List ℕ → ℕ → ℕ → List ℕ
+run ring h zero = []
+run ring h (suc n) = slice_index ring (h % 252) ∷ run ring (h + 1) n

@@ -1,4 +1,4 @@
-//! What every chooser here holds: its members in order of arrival.
+//! Members in order of arrival, of which any may be taken out.
 ghost use Rattle.std.specs.Prelude.{◌≡◌, ℕ, length};
 ghost use Rattle.arrayvec.specs.ArrayVec.{array_vec_len};
 ghost use Rattle.chooser.specs.Lists.{flag, ones, times};

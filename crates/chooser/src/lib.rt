@@ -60,7 +60,7 @@ mod tests {
         assert_eq!(rt; chooser.take(), None);
     }
 
-    // A hundred rounds, in each of which 7 is put twice.
+    // A hundred rounds, so that the ring is used again; 7 is put twice in each.
     #[test]
     fn in_order_of_arrival(rt: HostRuntime) {
         let mut chooser = Fifo::new();
