@@ -42,7 +42,7 @@ impl<C: Chooser> Planner<C> {
         ensures sound { Sound C.Chooser.has self.new }
     {
         let plant = HeldPlant::new(n, lines, aim)?;
-        self.open_stage_one(plant);
+        self.open_stage_one(&plant);
         Ok(())
     }
 

@@ -36,14 +36,15 @@ fn run_counted<C: Chooser>(
 }
 
 impl<C: Chooser> Planner<C> {
-    // Takes up a plant, and opens stage one on it.
-    pub(super) fn open_stage_one(&mut self, plant: HeldPlant)
-        ensures opened { OpenedOne C.Chooser.has C.Chooser.clears C.Chooser.puts C.Chooser.takes plant self.old self.new }
+    // Takes up a copy of a plant, and opens stage one on it.
+    // By reference: a plant is 12 kB, which would be moved once more where it is handed over whole.
+    pub(super) fn open_stage_one(&mut self, plant: &HeldPlant)
+        ensures opened { OpenedOne C.Chooser.has C.Chooser.clears C.Chooser.puts C.Chooser.takes plant.now self.old self.new }
         ensures sound { Sound C.Chooser.has self.new }
     {
-        self.network.open_first(&plant);
+        self.network.open_first(plant);
         self.network.begin(Stage::first(plant.junctions()));
-        self.plant = plant;
+        self.plant = *plant;
         self.one = Tally::default();
         self.two = Tally::default();
         self.state = State::StageOne;
