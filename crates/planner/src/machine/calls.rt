@@ -42,7 +42,8 @@ impl<C: Chooser> Planner<C> {
         ensures sound { Sound C.Chooser.has self.new }
     {
         let plant = HeldPlant::new(n, lines, aim)?;
-        self.open_stage_one(&plant);
+        self.plant = plant;
+        self.open_stage_one();
         Ok(())
     }
 

@@ -12,7 +12,6 @@ ghost use Rattle.planner.specs.Works.{InTwo, OpenedOne, OpenedTwo, RanCounted, R
 use super::super::answer::{Outcome, Tally};
 use super::{Planner, State};
 use chooser::Chooser;
-use plant::HeldPlant;
 use preflow::{Network, Stage};
 
 // Makes at most `most` discharges in a stage, and counts them in its tally.
@@ -36,15 +35,15 @@ fn run_counted<C: Chooser>(
 }
 
 impl<C: Chooser> Planner<C> {
-    // Takes up a copy of a plant, and opens stage one on it.
-    // By reference: a plant is 12 kB, which would be moved once more where it is handed over whole.
-    pub(super) fn open_stage_one(&mut self, plant: &HeldPlant)
-        ensures opened { OpenedOne C.Chooser.has C.Chooser.clears C.Chooser.puts C.Chooser.takes plant.now self.old self.new }
+    // Opens stage one on the plant that is held.
+    // It is put in place before: a plant is 12 kB, and would be moved once more where it is handed over.
+    pub(super) fn open_stage_one(&mut self)
+        ensures opened { OpenedOne C.Chooser.has C.Chooser.clears C.Chooser.puts C.Chooser.takes self.old.plant self.old self.new }
         ensures sound { Sound C.Chooser.has self.new }
     {
-        self.network.open_first(plant);
-        self.network.begin(Stage::first(plant.junctions()));
-        self.plant = *plant;
+        self.network.open_first(&self.plant);
+        self.network
+            .begin(Stage::first(self.plant.junctions()));
         self.one = Tally::default();
         self.two = Tally::default();
         self.state = State::StageOne;

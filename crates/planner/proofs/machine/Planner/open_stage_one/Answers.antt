@@ -10,7 +10,7 @@ use Rattle.planner.proofs.machine.Planner.open_stage_one.Goals as goal
 
 pub begin-requires : goal.begin-requires
 begin-requires g c =
-    let h = c.args.plant.now in
+    let h = c.args.self.now.plant in
     let n = h.n in
     let k = first_ends n c.junctions.result c.first.result.start c.first.result.goal c.first.result.junctions c.junctions.ensures.value c.first.ensures in
     record {
@@ -20,7 +20,7 @@ begin-requires g c =
 
 pub returns : goal.returns
 returns g c =
-    let h = c.args.plant.now in
+    let h = c.args.self.now.plant in
     let n = h.n in
     let k = first_ends n c.junctions.result c.first.result.start c.first.result.goal c.first.result.junctions c.junctions.ensures.value c.first.ensures in
     let o = c.open_first in
