@@ -38,7 +38,12 @@ impl<C: Chooser> Network<C> {
         ensures lines { result.lines.items ≡ [] }
         ensures rows { result.rows.items ≡ [] }
     {
-        Network::with_lines(ArrayVec::new(), chooser)
+        // Not by `with_lines`: its lines are 20 kB, which would be moved once more.
+        Network {
+            lines: Lines::new(),
+            rows: StageRows::new(),
+            chooser,
+        }
     }
 
     /// The lines given, and no row yet.
