@@ -24,6 +24,10 @@ fn scan<C: Chooser>(stage: Stage, lines: &mut [HeldLine], rows: &mut [Row], choo
     ensures puts { PutAll (Puts C.Chooser.has C.Chooser.puts) chooser.old (scan_puts stage.start stage.goal v (arcs lines.old) rows.old) chooser.new }
 {
     for held in lines.iter_mut() {
+        // Most lines do not touch `v`: they are passed over before anything else is looked at.
+        if held.residual(v) == 0 {
+            continue;
+        }
         if rows[v as usize].excess <= 0 {
             break;
         }

@@ -1,4 +1,4 @@
-use Rattle.std.proofs.Common.{◌≡◌, ◌≤◌, length, refl, ◌∙◌, arith}
+use Rattle.std.proofs.Common.{◌≡◌, ◌≤◌, length, slice_index_or, sym, refl, ◌∙◌, arith}
 use Rattle.std.proofs.Math.Seq.{map-set_same}
 use borrow.Author.Differences.{up}
 use Rattle.std.proofs.lemmas.List.{length-map}
@@ -7,6 +7,8 @@ use Rattle.plant.specs.Held.{arc, arcs}
 use Rattle.stage.specs.Model.{amount, exc}
 use Rattle.stage.proofs.Actives.{active_true}
 use Rattle.stage.proofs.Rows.{one_sided}
+use Rattle.stage.proofs.Scan.{amount_fits}
+use Rattle.stage.proofs.Stops.{still}
 use Rattle.preflow.proofs.Scans.{going_none, going_more, going_all, going_stops, sweep_here}
 use Rattle.preflow.proofs.Standing.{scan_roomy}
 use Rattle.preflow.proofs.discharge.scan.Goals as goal
@@ -46,6 +48,19 @@ loop-held-preserved g c =
     going_more g.C.Chooser.has g.C.Chooser.puts st.start st.goal v c.loop-held.held-index (arcs c.args.lines.now) c.args.rows.now c.args.chooser.now
     c.loop-held.lines c.loop-held.rows c.loop-held.chooser c.held-item.result c.push_and_put.new.held c.push_and_put.new.rows c.push_and_put.new.chooser
     (omega (arith, w.inside, h.standing.size)) (omega arith) c.push_and_put.ensures.line c.push_and_put.ensures.rows c.push_and_put.ensures.puts c.loop-held.invariant
+
+pub loop-held-preserved-then-residual-eq0 : goal.loop-held-preserved-then-residual-eq0
+loop-held-preserved-then-residual-eq0 g c =
+    let st = c.args.stage in
+    let v = c.args.v in
+    let h = c.requires.stands.holds in
+    let w = active_true st.junctions st.start st.goal c.args.rows.now v h.standing.size c.requires.active in
+    let x = slice_index_or c.loop-held.lines c.loop-held.held-index c.held-item.result in
+    let none : amount v (arc x) c.loop-held.rows ≡ 0 = omega (arith, c.residual.ensures, c.if-residual-eq0.true, amount_fits v (arc x) c.loop-held.rows) in
+    let m = still st.start st.goal v (arc x) c.loop-held.rows none in
+    going_more g.C.Chooser.has g.C.Chooser.puts st.start st.goal v c.loop-held.held-index (arcs c.args.lines.now) c.args.rows.now c.args.chooser.now
+    c.loop-held.lines c.loop-held.rows c.loop-held.chooser c.held-item.result x c.loop-held.rows c.loop-held.chooser
+    (omega (arith, w.inside, h.standing.size)) (omega arith) (sym m.arc) (sym m.rows) (rw m.none refl) c.loop-held.invariant
 
 pub returns-after-loop-held : goal.returns-after-loop-held
 returns-after-loop-held g c =
