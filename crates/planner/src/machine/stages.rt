@@ -42,8 +42,7 @@ impl<C: Chooser> Planner<C> {
         ensures sound { Sound C.Chooser.has self.new }
     {
         self.network.open_first(&self.plant);
-        self.network
-            .begin(Stage::first(self.plant.junctions()));
+        self.network.begin(Stage::first(self.plant.junctions()));
         self.one = Tally::default();
         self.two = Tally::default();
         self.state = State::StageOne;
