@@ -17,15 +17,15 @@ fn put_command(page: &mut Page<'_>, command: &Command)
 {
     match command {
         Command::Draw(line) => {
-            page.put(&[b'L', line.from, line.to]);
-            page.put(&line.low.to_be_bytes());
-            page.put(&line.high.to_be_bytes());
+            let [l3, l2, l1, l0] = line.low.to_be_bytes();
+            let [h3, h2, h1, h0] = line.high.to_be_bytes();
+            page.put(&[b'L', line.from, line.to, l3, l2, l1, l0, h3, h2, h1, h0]);
         }
         Command::Try(trial) => {
-            page.put(b"T");
-            page.put(&trial.line.to_be_bytes());
-            page.put(&trial.low.to_be_bytes());
-            page.put(&trial.high.to_be_bytes());
+            let [n1, n0] = trial.line.to_be_bytes();
+            let [l3, l2, l1, l0] = trial.low.to_be_bytes();
+            let [h3, h2, h1, h0] = trial.high.to_be_bytes();
+            page.put(&[b'T', n1, n0, l3, l2, l1, l0, h3, h2, h1, h0]);
         }
         Command::End(Aim::Greatest) => page.put(b"G"),
         Command::End(Aim::Least) => page.put(b"M"),
