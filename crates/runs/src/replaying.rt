@@ -26,8 +26,10 @@ pub fn replay<C: Chooser + Drop>(
 {
     let mut planner = Planner::new(chooser);
     let mut answers = Vec::new(heap);
-    for call in script.iter_mut() {
-        let answer = play(&mut planner, call, heap)?;
+    // Over the places: a planted mistake of the tests plays the call before once more, which a loop that lends one call at
+    // a time cannot say.
+    for i in 0..script.len() {
+        let answer = play(&mut planner, &mut script[i], heap)?;
         answers.push(answer)?;
     }
     Ok(answers)

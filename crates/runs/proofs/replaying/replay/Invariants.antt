@@ -4,7 +4,7 @@ use Rattle.planner.specs.Standing.{Sound}
 use Rattle.runs.proofs.Grows.{Running, Sofar}
 use Rattle.runs.proofs.replaying.replay.Given as goal
 
-abbrev pub invariant-loop-call : goal.invariant-loop-call
-invariant-loop-call g l =
-    Sound g.C.Chooser.has l.planner × (vec_len l.answers ≡ l.call-index) × Sofar l.initial.script l.script l.call-index
-    × Running g.C.Chooser.has g.C.Chooser.clears g.C.Chooser.puts g.C.Chooser.takes l.initial.planner (beside (take l.call-index l.initial.script) (vec_items l.answers)) l.planner
+abbrev pub invariant-loop-i : goal.invariant-loop-i
+invariant-loop-i g l =
+    Sound g.C.Chooser.has l.planner × (vec_len l.answers ≡ l.i) × Sofar l.initial.script l.script l.i
+    × Running g.C.Chooser.has g.C.Chooser.clears g.C.Chooser.puts g.C.Chooser.takes l.initial.planner (beside (take l.i l.initial.script) (vec_items l.answers)) l.planner
